@@ -53,6 +53,7 @@ NAMES = (
     "descriptors",
     "troubles",
     "uploads",
+    "clients",
     "strangers",
     "deaf",
     "crowd",

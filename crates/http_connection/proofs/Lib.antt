@@ -3,3 +3,4 @@ pub mod PendingLemmas
 pub mod RequestLemmas
 pub mod TalkLemmas
 pub mod TurnLemmas
+mod QueueLemmas

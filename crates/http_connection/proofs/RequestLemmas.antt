@@ -7,8 +7,8 @@ use Rattle.http_request.specs.Limits.{longest_body}
 use Rattle.http_request.specs.declared.ask.Refusal.{Refusal}
 use Rattle.http_request.specs.declared.ask.Refusal.TheVariants.{Coding, Large}
 use Rattle.httparse.specs.Grammar.{RequestHead, print_request}
-use Rattle.http_request.specs.Fields.{Length, absent, bad, is, length_fault, length_number, length_said, values_of, value_of, pairs_of, fields_fault, body_length}
-use Rattle.http_request.specs.Ask.{Asks, IsUnfinished, in_head, in_body}
+use Rattle.http_request.specs.Fields.{Length, absent, bad, is, length_fault, length_number, length_said, values_of, value_of, pairs_of, framing_fault, expected_of, expected_fault, first_fault, fields_fault, body_length}
+use Rattle.http_request.specs.Ask.{Asks, IsUnfinished, asked_to_go_on, in_head, in_body}
 use Rattle.http_request.specs.declared.ask.Ask.{Ask}
 use Rattle.http_request.specs.declared.ask.Call.{Call}
 use Rattle.http_parse.specs.Finds.{next_of}
@@ -66,6 +66,28 @@ module _ {B : Type 0} (gives : B → Call → Reply → B → Type 0) (n copies 
     pushed ∙ ap (λ l. out ++ l) answer_is,
   )
 
+module _ {B : Type 0} (gives : B → Call → Reply → B → Type 0) (n copies : ℕ) (is : n ≡ copies) (old new : B) (reply : Reply)
+    (w head : List ℕ) (len : ℕ) (asks : (more : List ℕ) → Asks n (w ++ more) asked_to_go_on false ((head ++ drop len w) ++ more)) (same : new ≡ old) where
+  abbrev going : Exchange
+  going = record { asked = asked_to_go_on; reply = reply; ends = false }
+
+  going_is : answer n asked_to_go_on reply false ≡ answer_of copies going
+  unfolding answer_of
+  going_is = ap (λ k. answer k asked_to_go_on reply false) is
+
+  -- a client was told to go on, and its head is shorter
+  pub steps_going : (w' out out' : List ℕ) → w' ≡ head ++ drop len w → out' ≡ out ++ answer n asked_to_go_on reply false → length head < len → len ≤ length w
+      → Steps gives copies step.Answered w w' old new out out'
+  steps_going w' out out' changed pushed less within = (
+    going,
+    λ more. record {
+      asks = subst (λ k. Asks k (w ++ more) asked_to_go_on false (w' ++ more)) is (subst (λ l. Asks n (w ++ more) asked_to_go_on false (l ++ more)) (sym changed) (asks more));
+      does = same;
+    },
+    pushed ∙ ap (λ l. out ++ l) going_is,
+    omega (arith, ap length changed, length-append head (drop len w), length-drop len w, less, within),
+  )
+
 -- a length without fault is within the limit
 length_within : (method : List ℕ) (l : Length) → length_fault method l ≡ None → length_number l ≤ longest_body
 length_within method absent e = omega arith
@@ -81,13 +103,18 @@ no_coding : (b : Bool) (o : Option Refusal) → (if b then Some Coding else o) �
 no_coding true o e = cc
 no_coding false o e = e
 
+no_first : (o p : Option Refusal) → first_fault o p ≡ None → o ≡ None
+no_first (Some fault) p e = e
+no_first None p e = refl
+
 body_within : (head : RequestHead) → fields_fault head ≡ None → body_length head ≤ longest_body
 body_within head e =
+    let framed = no_first (framing_fault head.method (pairs_of head)) (expected_fault (expected_of head.minor (pairs_of head))) e in
     length_within head.method (length_said (values_of (codes "content-length") (pairs_of head)))
-    (no_coding (is_some (value_of (codes "transfer-encoding") (pairs_of head))) (length_fault head.method (length_said (values_of (codes "content-length") (pairs_of head)))) e)
+    (no_coding (is_some (value_of (codes "transfer-encoding") (pairs_of head))) (length_fault head.method (length_said (values_of (codes "content-length") (pairs_of head)))) framed)
 
 -- bytes that end inside a request are fewer than a longest head and a longest body
 pub unfinished_short : (rest : List ℕ) → IsUnfinished rest → length rest < room
 unfinished_short rest (in_head head) = omega (arith, head.short)
-unfinished_short rest (in_body head after begins origin fault short) =
+unfinished_short rest (in_body head after begins origin fault here short) =
     omega (arith, ap length begins.reads.1, length-append (print_request head) after, begins.short, short, body_within head fault)

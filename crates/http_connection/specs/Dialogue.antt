@@ -21,6 +21,7 @@ abbrev pub call_in : What → Option Call
 call_in what.Ping = None
 call_in what.Resources = None
 call_in (what.Options route) = None
+call_in what.Continue = None
 call_in (what.Call c form) = Some c
 call_in (what.Refused refusal) = None
 

@@ -15,7 +15,8 @@ pub(crate) fn make_call<B: Backend>(backend: &mut B, ask: &Ask) -> Reply
     ensures copies { B.copies backend.new ≡ B.copies backend.old }
 {
     match &ask.what {
-        What::Ping | What::Resources | What::Options(_) | What::Refused(_) => Reply::Nothing,
+        What::Ping | What::Resources | What::Options(_) | What::Continue | What::Refused(_) =>
+            Reply::Nothing,
         What::Call(call, _) => call_backend(backend, call),
     }
 }

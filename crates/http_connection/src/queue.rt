@@ -1,6 +1,6 @@
 //! Bytes that wait: they come behind the others, and go from the front.
 
-ghost use Rattle.std.specs.Prelude.{◌≡◌, ◌<◌, ◌≤◌, ◌++◌, [], length, drop, OnOk, OnErr};
+ghost use Rattle.std.specs.Prelude.{◌≡◌, ◌<◌, ◌≤◌, ◌+◌, ◌++◌, [], length, take, drop, OnOk, OnErr};
 ghost use Rattle.std.specs.Vec.{vec_capacity};
 ghost use Rattle.http_response.specs.Answer.{answer};
 ghost use Rattle.http_connection.specs.Room.{kept};
@@ -122,6 +122,18 @@ impl Queue {
         }
     }
 
+    /// The first `len` of them become these, which are no more.
+    pub(crate) fn change_front(&mut self, len: usize, front: &[u8])
+        requires some { 0 < length front.now }
+        requires shorter { length front.now ≤ len }
+        requires fits { len ≤ length (waiting self.old) }
+        ensures { waiting self.new ≡ front.now ++ drop len (waiting self.old) }
+    {
+        let start = self.start + len - front.len();
+        write_at(&mut self.bytes, start, front);
+        self.start = start;
+    }
+
     // None wait any longer, and the buffer is handed back.
     fn clear(&mut self, spare: &mut Spare)
         ensures { waiting self.new ≡ [] }
@@ -153,4 +165,12 @@ impl Queue {
             self.start = 0;
         }
     }
+}
+
+// Writes bytes over others, from a place on.
+fn write_at(bytes: &mut [u8], at: usize, new: &[u8])
+    requires { at + length new.now ≤ length bytes.old }
+    ensures { bytes.new ≡ take at bytes.old ++ (new.now ++ drop (at + length new.now) bytes.old) }
+{
+    bytes[at..at + new.len()].copy_from_slice(new);
 }

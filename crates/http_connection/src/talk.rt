@@ -1,9 +1,9 @@
 //! What one connection keeps, and one step of it, without any device.
 
-ghost use Rattle.std.specs.Prelude.{◌≡◌, ◌≤◌, ◌++◌, ◌⊎◌, ℕ, List, [], false, length, drop, IfOk, IfSome, OnOk, OnErr};
+ghost use Rattle.std.specs.Prelude.{◌≡◌, ◌<◌, ◌≤◌, ◌++◌, ◌⊎◌, ℕ, List, [], false, length, drop, IfOk, IfSome, OnOk, OnErr};
 ghost use Rattle.http_request.specs.Fits.{FitsAsk};
 ghost use Rattle.http_parse.specs.Finds.{Finds};
-ghost use Rattle.http_parse.specs.declared.request.Asking.TheVariants.{First};
+ghost use Rattle.http_parse.specs.declared.request.Asking.TheVariants.{First, GoOn};
 ghost use Rattle.http_response.specs.declared.reply.Reply.{Reply};
 ghost use Rattle.http_response.specs.Answer.{answer};
 ghost use Rattle.http_connection.specs.Dialogue.{Does, call_of};
@@ -17,7 +17,7 @@ use crate::queue::Queue;
 use crate::turn::{Step, Wanted};
 use http_parse::laws::heads_stay_known;
 use http_parse::{Asking, KnownHead};
-use http_request::Ask;
+use http_request::{Ask, What};
 use std::alloc::{AllocError, Global};
 use std::marker::Model;
 
@@ -111,6 +111,7 @@ impl Talk {
         match asking {
             Asking::Head => Ok(Step::Waits(Wanted::Line)),
             Asking::Body { needs } => Ok(Step::Waits(Wanted::Bytes(needs))),
+            Asking::GoOn { head, len } => self.tell_to_go_on(desk, backend, copies, head, len),
             Asking::First { ask, ends, len } => {
                 self.answer(desk, backend, copies, &ask, ends, len)
             }
@@ -171,6 +172,45 @@ impl Talk {
         self.push_reply(desk, backend, copies, ask, ends)?;
         self.take(desk, len);
         Ok(if ends { Step::Last } else { Step::Answered })
+    }
+
+    // Tells a client that it may go on: its request stays with those that wait, with a head that expects nothing.
+    fn tell_to_go_on<B: Backend>(
+        &mut self,
+        desk: &mut Desk,
+        backend: &mut B,
+        copies: u32,
+        head: Vec<u8>,
+        len: usize,
+    ) -> Result<Step, AllocError>
+        requires copies { copies ≡ B.copies backend.old }
+        requires finds { Finds copies self.old.waits (GoOn head len) }
+        ensures steps { IfOk result (λ step. Steps B.gives (B.copies backend.old) step self.old.waits self.new.waits
+            backend.old backend.new self.old.unsent self.new.unsent) }
+        ensures halts { OnErr result (Halts B.gives (B.copies backend.old) self.old.waits backend.old backend.new) }
+        ensures forgets { OnErr result (self.new.unsent ≡ []) }
+        ensures stays { B.copies backend.new ≡ B.copies backend.old }
+    {
+        let ask = Ask {
+            what: What::Continue,
+            head_only: false,
+        };
+        self.push_reply(desk, backend, copies, &ask, false)?;
+        self.change_head(len, head.as_slice());
+        Ok(Step::Answered)
+    }
+
+    // Changes the head of the first request of the bytes that wait for a shorter one.
+    fn change_head(&mut self, len: usize, head: &[u8])
+        requires some { 0 < length head.now }
+        requires shorter { length head.now ≤ len }
+        requires fits { len ≤ length self.old.waits }
+        ensures waits { self.new.waits ≡ head.now ++ drop len self.old.waits }
+        ensures unsent { self.new.unsent ≡ self.old.unsent }
+    {
+        self.known = None;
+        self.awaited = None;
+        self.inbox.change_front(len, head);
     }
 
     // Makes the call of a request, and adds its answer to those that wait.
@@ -238,6 +278,6 @@ fn wanted_by(asking: &Asking) -> Option<Wanted>
     match asking {
         Asking::Head => Some(Wanted::Line),
         Asking::Body { needs } => Some(Wanted::Bytes(*needs)),
-        Asking::First { .. } => None,
+        Asking::GoOn { .. } | Asking::First { .. } => None,
     }
 }

@@ -11,7 +11,7 @@ use Rattle.std.proofs.lemmas.List.{take-append-drop, length-take-le, drop-drop, 
 use Rattle.httparse.specs.Grammar.{RequestHead}
 use Rattle.httparse.proofs.GrammarLemmas.{ReadsRequest-append}
 use Rattle.http_request.specs.Head.{BeginsHead, IsOriginTarget}
-use Rattle.http_request.specs.Fields.{fields_fault, body_length, is_last, without_zeros}
+use Rattle.http_request.specs.Fields.{fields_fault, body_length, is_last, waits_to_go_on, without_zeros}
 use Rattle.http_request.specs.Ask.{Asks, whole, asked_by}
 
 -- a head at the front stays there, whatever follows
@@ -33,14 +33,14 @@ body_split buf len n more =
 
 -- a request whose body is at hand, whatever follows
 pub whole_with_body : (n : ℕ) (buf : List ℕ) (head : RequestHead) (len : ℕ) (more : List ℕ) → BeginsHead buf head (drop len buf)
-    → IsOriginTarget head.target → fields_fault head ≡ None → len + body_length head ≤ length buf
+    → IsOriginTarget head.target → fields_fault head ≡ None → waits_to_go_on head ≡ false → len + body_length head ≤ length buf
     → Asks n (buf ++ more) (asked_by n head (take (body_length head) (drop len buf))) (is_last head)
     (if is_last head then [] else drop (len + body_length head) buf ++ more)
-whole_with_body n buf head len more begins origin fault fits =
+whole_with_body n buf head len more begins origin fault here fits =
     let all = begins_append buf head (drop len buf) more begins in
     let at : BeginsHead (buf ++ more) head (take (body_length head) (drop len buf) ++ (drop (len + body_length head) buf ++ more)) =
     subst (BeginsHead (buf ++ more) head) (body_split buf len (body_length head) more) all in
-    whole head (take (body_length head) (drop len buf)) (drop (len + body_length head) buf ++ more) at origin fault
+    whole head (take (body_length head) (drop len buf)) (drop (len + body_length head) buf ++ more) at origin fault here
     (length-take-le (body_length head) (drop len buf) (omega (arith, fits, length-drop len buf)))
 
 -- a zero in front goes

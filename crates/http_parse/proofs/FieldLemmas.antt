@@ -6,7 +6,7 @@ use Rattle.std.specs.Prelude.{◌&&◌, if◌then◌else◌, bytes_eq, codes, is
 use Rattle.std.specs.List.{list_all}
 use Rattle.std.specs.Str.Parse.{digits_value}
 use Rattle.http_request.specs.declared.ask.Refusal.TheVariants.{Coding, Large}
-use Rattle.http_request.specs.Fields.{Pair, is_named, value_of, values_of, is_number, without_zeros, Length, absent, bad, is, length_said, length_fault, fault_among}
+use Rattle.http_request.specs.Fields.{Pair, is_named, value_of, values_of, is_number, without_zeros, Length, absent, bad, is, length_said, length_fault, framing_fault}
 
 some_is : (x y : List ℕ) → Some x ≡ Some y → x ≡ y
 some_is x y e = search (e, rules)
@@ -49,7 +49,7 @@ module _ (pairs : List Pair) where
 
   -- without a coding the length decides
   pub fault_by_length : (method : List ℕ) (l : Length) → value_of (codes "transfer-encoding") pairs ≡ None → length_said lengths ≡ l
-      → fault_among method pairs ≡ length_fault method l
+      → framing_fault method pairs ≡ length_fault method l
   fault_by_length method l e s =
       ap (λ o. if is_some o then Some Coding else length_fault method (length_said lengths)) e ∙ ap (length_fault method) s
 

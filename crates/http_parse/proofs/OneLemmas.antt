@@ -1,12 +1,12 @@
 -- On two answers about the same bytes.
-use Rattle.std.proofs.Common.{◌≡◌, ℕ, Bool, List, [], ◌++◌, length, take, drop, refl, sym, ap, subst, ◌∙◌, Some, None}
+use Rattle.std.proofs.Common.{◌≡◌, ℕ, Bool, true, false, List, [], ◌++◌, length, take, drop, refl, sym, ap, subst, ◌∙◌, Some, None}
 use Rattle.std.specs.Prelude.{if◌then◌else◌, unwrap_or}
 use Rattle.std.proofs.Math.Seq.{take-append_seam, drop-append_seam}
 use Rattle.httparse.specs.Grammar.{RequestHead}
 use Rattle.httparse.proofs.GrammarLemmas.{request_unique}
 use Rattle.http_request.specs.Head.{BeginsHead, IsOriginTarget}
-use Rattle.http_request.specs.Fields.{fields_fault, body_length, is_last}
-use Rattle.http_request.specs.Ask.{Asks, bad_head, bad_target, bad_fields, whole, asked_by, asked_by_method}
+use Rattle.http_request.specs.Fields.{fields_fault, body_length, is_last, waits_to_go_on, without_expectation}
+use Rattle.http_request.specs.Ask.{Asks, bad_head, bad_target, bad_fields, goes_on, whole, asked_by, asked_by_method}
 use Rattle.http_request.specs.declared.ask.Ask.{Ask}
 use Rattle.http_request.specs.declared.ask.What.TheVariants.{Refused}
 use Rattle.http_request.specs.declared.ask.Refusal.{Refusal}
@@ -29,6 +29,13 @@ no_fault h k f e x y = some_none (sym x ∙ (ap fields_fault e ∙ y))
     some_none : Some f ≡ None → ⊥
     some_none z = cc
 
+-- and whether its client waits
+no_wait : (h k : RequestHead) → h ≡ k → waits_to_go_on h ≡ true → waits_to_go_on k ≡ false → ⊥
+no_wait h k e x y = true_false (sym x ∙ (ap waits_to_go_on e ∙ y))
+  where
+    true_false : true ≡ false → ⊥
+    true_false z = cc
+
 -- a body of the same length is one
 one_body : (b c r s : List ℕ) → length b ≡ length c → b ++ r ≡ c ++ s → (b ≡ c) × (r ≡ s)
 one_body b c r s n e = (
@@ -50,11 +57,11 @@ pub asks_one : (n : ℕ) (bytes : List ℕ) (ask other : Ask) (ends stops : Bool
 asks_one n bytes _ _ _ _ _ _ (bad_head x) (bad_head y) = (refl, refl, refl)
 asks_one n bytes _ _ _ _ _ _ (bad_head x) (bad_target k b y q) = (refl, refl, refl)
 asks_one n bytes _ _ _ _ _ _ (bad_head x) (bad_fields k b g y q v) = absurd (x.0 k b y)
-asks_one n bytes _ _ _ _ _ _ (bad_head x) (whole k c s y q v m) = absurd (x.0 k (c ++ s) y)
+asks_one n bytes _ _ _ _ _ _ (bad_head x) (whole k c s y q v w m) = absurd (x.0 k (c ++ s) y)
 asks_one n bytes _ _ _ _ _ _ (bad_target h a x p) (bad_head y) = (refl, refl, refl)
 asks_one n bytes _ _ _ _ _ _ (bad_target h a x p) (bad_target k b y q) = (refl, refl, refl)
 asks_one n bytes _ _ _ _ _ _ (bad_target h a x p) (bad_fields k b g y q v) = absurd (one_target h k (one_head bytes h k a b x y).0 p q)
-asks_one n bytes _ _ _ _ _ _ (bad_target h a x p) (whole k c s y q v m) = absurd (one_target h k (one_head bytes h k a (c ++ s) x y).0 p q)
+asks_one n bytes _ _ _ _ _ _ (bad_target h a x p) (whole k c s y q v w m) = absurd (one_target h k (one_head bytes h k a (c ++ s) x y).0 p q)
 asks_one n bytes _ _ _ _ _ _ (bad_fields h a f x p u) (bad_head y) = absurd (y.0 h a x)
 asks_one n bytes _ _ _ _ _ _ (bad_fields h a f x p u) (bad_target k b y q) = absurd (one_target k h (one_head bytes k h b a y x).0 q p)
 asks_one n bytes _ _ _ _ _ _ (bad_fields h a f x p u) (bad_fields k b g y q v) =
@@ -63,10 +70,24 @@ asks_one n bytes _ _ _ _ _ _ (bad_fields h a f x p u) (bad_fields k b g y q v) =
       refl,
       refl,
     )
-asks_one n bytes _ _ _ _ _ _ (bad_fields h a f x p u) (whole k c s y q v m) = absurd (no_fault h k f (one_head bytes h k a (c ++ s) x y).0 u v)
-asks_one n bytes _ _ _ _ _ _ (whole h b r x p u l) (bad_head y) = absurd (y.0 h (b ++ r) x)
-asks_one n bytes _ _ _ _ _ _ (whole h b r x p u l) (bad_target k c y q) = absurd (one_target k h (one_head bytes k h c (b ++ r) y x).0 q p)
-asks_one n bytes _ _ _ _ _ _ (whole h b r x p u l) (bad_fields k c g y q v) = absurd (no_fault k h g (one_head bytes k h c (b ++ r) y x).0 v u)
-asks_one n bytes _ _ _ _ _ _ (whole h b r x p u l) (whole k c s y q v m) =
+asks_one n bytes _ _ _ _ _ _ (bad_fields h a f x p u) (whole k c s y q v w m) = absurd (no_fault h k f (one_head bytes h k a (c ++ s) x y).0 u v)
+asks_one n bytes _ _ _ _ _ _ (whole h b r x p u z l) (bad_head y) = absurd (y.0 h (b ++ r) x)
+asks_one n bytes _ _ _ _ _ _ (whole h b r x p u z l) (bad_target k c y q) = absurd (one_target k h (one_head bytes k h c (b ++ r) y x).0 q p)
+asks_one n bytes _ _ _ _ _ _ (whole h b r x p u z l) (bad_fields k c g y q v) = absurd (no_fault k h g (one_head bytes k h c (b ++ r) y x).0 v u)
+asks_one n bytes _ _ _ _ _ _ (whole h b r x p u z l) (whole k c s y q v w m) =
     let heads = one_head bytes h k (b ++ r) (c ++ s) x y in
     one_whole n h k b c r s heads.0 (one_body b c r s (l ∙ (ap body_length heads.0 ∙ sym m)) heads.1)
+asks_one n bytes _ _ _ _ _ _ (bad_head x) (goes_on k b y q v w) = absurd (x.0 k b y)
+asks_one n bytes _ _ _ _ _ _ (bad_target h a x p) (goes_on k b y q v w) = absurd (one_target h k (one_head bytes h k a b x y).0 p q)
+asks_one n bytes _ _ _ _ _ _ (bad_fields h a f x p u) (goes_on k b y q v w) = absurd (no_fault h k f (one_head bytes h k a b x y).0 u v)
+asks_one n bytes _ _ _ _ _ _ (whole h b r x p u z l) (goes_on k c y q v w) = absurd (no_wait k h (one_head bytes k h c (b ++ r) y x).0 w z)
+asks_one n bytes _ _ _ _ _ _ (goes_on h a x p u z) (bad_head y) = absurd (y.0 h a x)
+asks_one n bytes _ _ _ _ _ _ (goes_on h a x p u z) (bad_target k b y q) = absurd (one_target k h (one_head bytes k h b a y x).0 q p)
+asks_one n bytes _ _ _ _ _ _ (goes_on h a x p u z) (bad_fields k b g y q v) = absurd (no_fault k h g (one_head bytes k h b a y x).0 v u)
+asks_one n bytes _ _ _ _ _ _ (goes_on h a x p u z) (whole k c s y q v w m) = absurd (no_wait h k (one_head bytes h k a (c ++ s) x y).0 z w)
+asks_one n bytes _ _ _ _ _ _ (goes_on h a x p u z) (goes_on k b y q v w) =
+    let heads = one_head bytes h k a b x y in (
+      refl,
+      refl,
+      ap (λ h. without_expectation h ++ a) heads.0 ∙ ap (λ l. without_expectation k ++ l) heads.1,
+    )

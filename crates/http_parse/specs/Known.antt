@@ -4,7 +4,7 @@ use Rattle.httparse.specs.declared.spans.RequestSpans.{RequestSpans}
 use Rattle.http_parse.specs.Heads.{StandsAt}
 use Rattle.http_parse.specs.declared.known.KnownHead.{KnownHead}
 use Rattle.http_parse.specs.declared.request.Asking.{Asking}
-use Rattle.http_parse.specs.declared.request.Asking.TheVariants.{Head, Body, First}
+use Rattle.http_parse.specs.declared.request.Asking.TheVariants.{Head, Body, GoOn, First}
 
 -- the head that is known, if one is, stands at the front of the bytes
 abbrev pub IsKnownOf : KnownHead → List ℕ → Type 0
@@ -18,10 +18,12 @@ KnowsNothing known = (bytes : List ℕ) → IsKnownOf known bytes
 abbrev pub kept_of : Asking → RequestSpans → Option RequestSpans
 kept_of Head spans = None
 kept_of (Body needs) spans = Some spans
+kept_of (GoOn head len) spans = None
 kept_of (First ask ends len) spans = None
 
 -- what is known beside an answer: the head of the bytes while its body is missing, and else nothing
 abbrev pub Leaves : Asking → List ℕ → KnownHead → Type 0
 Leaves Head bytes known = KnowsNothing known
 Leaves (Body needs) bytes known = (spans : RequestSpans) × (known.spans ≡ Some spans) × StandsAt bytes known.lines spans
+Leaves (GoOn head len) bytes known = KnowsNothing known
 Leaves (First ask ends len) bytes known = KnowsNothing known

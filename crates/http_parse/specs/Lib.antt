@@ -7,3 +7,4 @@ pub mod Targets
 pub mod Finds
 pub mod Known
 pub mod One
+pub mod Expects

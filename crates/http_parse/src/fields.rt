@@ -10,6 +10,7 @@ ghost use Rattle.std.specs.Char.{is_ascii_digit};
 ghost use Rattle.httparse.specs.Spans.{header_bytes, IsHeaderWithin};
 ghost use Rattle.http_request.specs.Fields as spec;
 ghost use Rattle.http_request.specs.Limits.{longest_body};
+ghost use Rattle.http_parse.specs.Expects.{expected};
 ghost use Rattle.http_parse.specs.Firsts.{AreFirst, accepted};
 
 use crate::firsts::Fields;
@@ -197,8 +198,62 @@ fn without_space_behind(text: &[u8]) -> &[u8]
     rest
 }
 
-/// How many bytes of body follow the head, or what is wrong with its fields.
+/// What a client expects before it sends a body.
+#[derive(Clone, Copy)]
+pub(crate) enum Expected {
+    /// Nothing.
+    Nothing,
+    /// To be told to go on.
+    GoOn,
+    /// Something that there isn't.
+    Other,
+}
+
+/// What the first `Expect` field says; of HTTP/1.0 it says nothing (RFC 9110, 10.1.1).
+pub(crate) fn expected_of(version: u8, fields: &Fields<'_>) -> Expected
+    ensures { (pairs : List spec.Pair) → AreFirst fields.now pairs → expected result ≡ spec.expected_of version pairs }
+{
+    match fields.expect {
+        Some(value) if version != 0 => expected_by(value),
+        _ => Expected::Nothing,
+    }
+}
+
+// What an `Expect` field says.
+fn expected_by(value: &[u8]) -> Expected
+    ensures { expected result ≡ spec.expected_by (Some value.now) }
+{
+    if value.eq_ignore_ascii_case(b"100-continue") {
+        Expected::GoOn
+    } else {
+        Expected::Other
+    }
+}
+
+/// How many bytes of body follow the head of a request of this version, or what is wrong with its fields.
 pub(crate) fn body_length(
+    bytes: &[u8],
+    lines: &[HeaderSpan],
+    fields: &Fields<'_>,
+    method: &[u8],
+    version: u8,
+) -> Result<usize, Refusal>
+    requires within { All (IsHeaderWithin (length bytes.now)) lines.now }
+    requires first { AreFirst fields.now (map (header_bytes bytes.now) lines.now) }
+    ensures fault { IfErr result (λ refusal. spec.fault_among version method.now (map (header_bytes bytes.now) lines.now) ≡ Some refusal) }
+    ensures ok { OnOk result (spec.fault_among version method.now (map (header_bytes bytes.now) lines.now) ≡ None) }
+    ensures length { IfOk result (λ len. len ≡ spec.length_among (map (header_bytes bytes.now) lines.now)) }
+    ensures small { IfOk result (λ len. len ≤ longest_body) }
+{
+    let len = told_length(bytes, lines, fields, method)?;
+    match expected_of(version, fields) {
+        Expected::Other => Err(Refusal::Expectation),
+        Expected::Nothing | Expected::GoOn => Ok(len),
+    }
+}
+
+// How many bytes of body the fields tell, or what is wrong with them.
+fn told_length(
     bytes: &[u8],
     lines: &[HeaderSpan],
     fields: &Fields<'_>,
@@ -206,8 +261,8 @@ pub(crate) fn body_length(
 ) -> Result<usize, Refusal>
     requires within { All (IsHeaderWithin (length bytes.now)) lines.now }
     requires first { AreFirst fields.now (map (header_bytes bytes.now) lines.now) }
-    ensures fault { IfErr result (λ refusal. spec.fault_among method.now (map (header_bytes bytes.now) lines.now) ≡ Some refusal) }
-    ensures ok { OnOk result (spec.fault_among method.now (map (header_bytes bytes.now) lines.now) ≡ None) }
+    ensures fault { IfErr result (λ refusal. spec.framing_fault method.now (map (header_bytes bytes.now) lines.now) ≡ Some refusal) }
+    ensures ok { OnOk result (spec.framing_fault method.now (map (header_bytes bytes.now) lines.now) ≡ None) }
     ensures length { IfOk result (λ len. len ≡ spec.length_among (map (header_bytes bytes.now) lines.now)) }
     ensures small { IfOk result (λ len. len ≤ longest_body) }
 {
@@ -238,6 +293,16 @@ fn needs_length(method: &[u8]) -> bool
     ensures { result ≡ spec.needs_length method.now }
 {
     method == b"PUT".as_slice() || method == b"POST".as_slice()
+}
+
+/// Whether the client of a request with so long a body waits to be told to go on.
+pub(crate) fn waits_to_go_on(version: u8, fields: &Fields<'_>, len: usize) -> bool
+    ensures { (pairs : List spec.Pair) → AreFirst fields.now pairs → result ≡ spec.waits_by version pairs len }
+{
+    match expected_of(version, fields) {
+        Expected::GoOn => len > 0,
+        Expected::Nothing | Expected::Other => false,
+    }
 }
 
 /// Whether the connection ends after the answer: HTTP/1.0, or a `close` element.

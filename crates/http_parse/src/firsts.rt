@@ -20,6 +20,7 @@ pub(crate) struct Fields<'b> {
     pub(crate) accept: Option<&'b [u8]>,
     pub(crate) content_type: Option<&'b [u8]>,
     pub(crate) context: Option<&'b [u8]>,
+    pub(crate) expect: Option<&'b [u8]>,
 }
 
 /// The fields of the lines.
@@ -34,6 +35,7 @@ pub(crate) fn fields_of<'b>(bytes: &'b [u8], lines: &[HeaderSpan]) -> Fields<'b>
         accept: None,
         content_type: None,
         context: None,
+        expect: None,
     };
     for line in lines {
         fields = with_line(fields, bytes, *line);
@@ -53,6 +55,7 @@ fn with_line<'b>(fields: Fields<'b>, bytes: &'b [u8], line: HeaderSpan) -> Field
         accept: first(fields.accept, bytes, line, b"accept"),
         content_type: first(fields.content_type, bytes, line, b"content-type"),
         context: first(fields.context, bytes, line, b"x-riak-vclock"),
+        expect: first(fields.expect, bytes, line, b"expect"),
     }
 }
 

@@ -6,6 +6,7 @@
 //! kept as a [`KnownHead`], and not parsed again.
 #![tactic(auto)]
 
+mod anew;
 mod asked;
 mod fields;
 mod firsts;

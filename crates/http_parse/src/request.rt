@@ -10,8 +10,9 @@ ghost use Rattle.http_parse.specs.Known.{IsKnownOf, Leaves, kept_of};
 ghost use Rattle.http_parse.specs.Targets.{IsTargetOf};
 ghost use Rattle.http_parse.specs.declared.request.Asking.TheVariants.{First};
 
+use crate::anew::head_anew;
 use crate::asked::asked_by;
-use crate::fields::{body_length, closes};
+use crate::fields::{body_length, closes, waits_to_go_on};
 use crate::firsts::fields_of;
 use crate::head::{HeadAt, read_head};
 use crate::known::KnownHead;
@@ -31,6 +32,9 @@ pub enum Asking {
     /// The head is whole, and its body isn't. So many bytes from the first on are the whole request, and with fewer there is
     /// none yet.
     Body { needs: usize },
+    /// The first request's client waits to be told to go on. What is read next is the same request without what it expects: its
+    /// head is this one, and stood in so many of the bytes, which are more.
+    GoOn { head: Vec<u8>, len: usize },
     /// The first request: what it asks for, whether the connection ends after the answer, and how many of the bytes are
     /// its own. Where the connection ends nothing behind them is read.
     First { ask: Ask, ends: bool, len: usize },
@@ -90,7 +94,7 @@ fn kept(asking: &Asking, spans: RequestSpans) -> Option<RequestSpans>
 {
     match asking {
         Asking::Body { .. } => Some(spans),
-        Asking::Head | Asking::First { .. } => None,
+        Asking::Head | Asking::GoOn { .. } | Asking::First { .. } => None,
     }
 }
 
@@ -158,10 +162,18 @@ fn request_to(
     let lines = &lines[..spans.headers];
     let method = spans.method.of(bytes);
     let fields = fields_of(bytes, lines);
-    let len = match body_length(bytes, lines, &fields, method) {
+    let body = match body_length(bytes, lines, &fields, method, spans.version) {
         Err(refusal) => return Ok(broken(method, refusal, spans.len)),
-        Ok(body) => spans.len + body,
+        Ok(body) => body,
     };
+    if waits_to_go_on(spans.version, &fields, body) {
+        let head = head_anew(alloc, bytes, method, spans.path, lines)?;
+        return Ok(Asking::GoOn {
+            head,
+            len: spans.len,
+        });
+    }
+    let len = spans.len + body;
     if bytes.len() < len {
         return Ok(Asking::Body { needs: len });
     }

@@ -1,14 +1,14 @@
 -- The worked requests, computed by the definitions.
-use Rattle.std.proofs.Common.{◌≡◌, ℕ, List, [], ◌∷◌, Some, None, Ok, Err, refl, true, false}
+use Rattle.std.proofs.Common.{◌≡◌, ℕ, List, [], ◌∷◌, ◌++◌, Some, None, Ok, Err, refl, true, false}
 use Rattle.std.specs.Prelude.{codes}
 use Rattle.httparse.specs.Grammar.{RequestHead, Field, crlf, trim_ows}
 use Rattle.matchit.specs.Seek.{seek, param_step}
 use Rattle.matchit.specs.Route.{scan}
 use Rattle.serde_json.proofs.OnLiterals.{serde_json_on_literals}
-use Rattle.http_request.specs.declared.ask.Refusal.TheVariants.{Coding, BadLength, NoLength, Large, Method, Query, BadName, BadType, FixedProperty}
+use Rattle.http_request.specs.declared.ask.Refusal.TheVariants.{Coding, BadLength, NoLength, Large, Expectation, Method, Query, BadName, BadType, FixedProperty}
 use Rattle.http_request.specs.declared.route.Route.TheVariants as route
 use Rattle.http_request.specs.Table.{routes, route_of}
-use Rattle.http_request.specs.Fields.{fields_fault, fault_among, body_length, is_last, accepts, is_no_weight}
+use Rattle.http_request.specs.Fields.{fields_fault, fault_among, body_length, is_last, accepts, is_no_weight, waits_by, head_anew}
 use Rattle.key_state.specs.declared.content.Content.TheVariants.{Value}
 use Rattle.http_request.specs.declared.ask.Change.TheVariants.{Kept, Unbound, Bound}
 use Rattle.http_request.specs.declared.ask.Property.TheVariants.{AllowMult, LastWriteWins, NVal, PostCommit}
@@ -72,14 +72,31 @@ plus_length = refl
 
 -- the faults of the fields, in their order, where two or more stand
 fields_in_order :
-    (fault_among (codes "PUT") ((codes "Transfer-Encoding", codes "chunked") ∷ (codes "Content-Length", codes "x") ∷ []) ≡ Some Coding)
-    × (fault_among (codes "PUT") ((codes "Content-Length", codes "99999999") ∷ (codes "Content-Length", codes "x") ∷ []) ≡ Some BadLength)
-    × (fault_among (codes "PUT") ((codes "Content-Length", codes "") ∷ []) ≡ Some BadLength)
-    × (fault_among (codes "POST") [] ≡ Some NoLength)
-    × (fault_among (codes "GET") [] ≡ None)
-    × (fault_among (codes "GET") ((codes "Content-Length", codes "65537") ∷ []) ≡ Some Large)
-    × (fault_among (codes "PUT") ((codes "Content-Length", codes "65536") ∷ (codes "Content-Length", codes "0065536") ∷ []) ≡ None)
+    (fault_among 1 (codes "PUT") ((codes "Transfer-Encoding", codes "chunked") ∷ (codes "Content-Length", codes "x") ∷ []) ≡ Some Coding)
+    × (fault_among 1 (codes "PUT") ((codes "Content-Length", codes "99999999") ∷ (codes "Content-Length", codes "x") ∷ []) ≡ Some BadLength)
+    × (fault_among 1 (codes "PUT") ((codes "Content-Length", codes "") ∷ []) ≡ Some BadLength)
+    × (fault_among 1 (codes "POST") [] ≡ Some NoLength)
+    × (fault_among 1 (codes "GET") [] ≡ None)
+    × (fault_among 1 (codes "GET") ((codes "Content-Length", codes "65537") ∷ []) ≡ Some Large)
+    × (fault_among 1 (codes "PUT") ((codes "Content-Length", codes "65536") ∷ (codes "Content-Length", codes "0065536") ∷ []) ≡ None)
 fields_in_order = (refl, refl, refl, refl, refl, refl, refl)
+
+-- what clients expect: of the faults the last, and nothing in HTTP/1.0
+expectations :
+    (fault_among 1 (codes "PUT") ((codes "Expect", codes "200-ok") ∷ (codes "Content-Length", codes "1") ∷ []) ≡ Some Expectation)
+    × (fault_among 1 (codes "PUT") ((codes "Expect", codes "200-ok") ∷ []) ≡ Some NoLength)
+    × (fault_among 0 (codes "GET") ((codes "Expect", codes "200-ok") ∷ []) ≡ None)
+    × (fault_among 1 (codes "GET") ((codes "expect", codes "100-Continue") ∷ (codes "Expect", codes "200-ok") ∷ []) ≡ None)
+expectations = (refl, refl, refl, refl)
+
+waits :
+    (waits_by 1 ((codes "EXPECT", codes "100-CONTINUE") ∷ []) 1 ≡ true) × (waits_by 0 ((codes "Expect", codes "100-continue") ∷ []) 1 ≡ false)
+    × (waits_by 1 ((codes "Expect", codes "100-continue") ∷ []) 0 ≡ false) × (waits_by 1 [] 1 ≡ false)
+waits = (refl, refl, refl, refl)
+
+anew : head_anew (codes "PUT") (codes "/x?y") ((codes "Host", codes "h") ∷ (codes "expect", codes "100-continue") ∷ (codes "Content-Length", codes "1") ∷ [])
+    ≡ codes "PUT /x?y HTTP/1.1" ++ 10 ∷ codes "Host:h" ++ 10 ∷ codes "Content-Length:1" ++ 10 ∷ 10 ∷ []
+anew = refl
 
 -- connections that end after the answer, and one that does not
 closes : is_last (head (codes "GET") (codes "/") (field (codes "Connection") (codes "keep-alive, CLOSE") ∷ [])) ≡ true

@@ -8,7 +8,7 @@ use Rattle.context_token.specs.declared.fault.TokenFault.{TokenFault}
 use Rattle.context_token.specs.Token.{read_text}
 use Rattle.key_state.specs.Limits.{longest_bucket, longest_key, longest_media}
 use Rattle.http_request.specs.Head.{BeginsHead, IsBadHead, IsHeadUnfinished, IsOriginTarget}
-use Rattle.http_request.specs.Fields.{Pair, pairs_of, value_of, accepts, is_last, fields_fault, body_length}
+use Rattle.http_request.specs.Fields.{Pair, pairs_of, value_of, accepts, is_last, fields_fault, body_length, waits_to_go_on, without_expectation}
 use Rattle.http_request.specs.Table.{route_of}
 use Rattle.http_request.specs.Target.{path_at, query_at, texts_of, name_at, is_name, is_hook_name, asked_for, Quorums, quorums_of}
 use Rattle.http_request.specs.Props.{changes_in}
@@ -19,7 +19,7 @@ use Rattle.http_request.specs.declared.ask.Form.TheVariants.{Text, Parts, One}
 use Rattle.http_request.specs.declared.ask.Call.TheVariants.{Get, Put, Install, Remove, ReadProps, SetProps}
 use Rattle.http_request.specs.declared.ask.Ask.{Ask}
 use Rattle.http_request.specs.declared.ask.What.{What}
-use Rattle.http_request.specs.declared.ask.What.TheVariants.{Ping, Resources, Options, Call, Refused}
+use Rattle.http_request.specs.declared.ask.What.TheVariants.{Ping, Resources, Options, Continue, Call, Refused}
 use Rattle.http_request.specs.declared.route.Route.{Route}
 use Rattle.http_request.specs.declared.route.Route.TheVariants as route
 use Rattle.http_request.specs.declared.ask.Refusal.{Refusal}
@@ -120,6 +120,10 @@ asked_by_method method what = record { what = what; head_only = bytes_eq method 
 abbrev pub asked_by_none : Ask
 asked_by_none = record { what = Refused BadHead; head_only = false }
 
+-- what is asked by a client that waits to be told to go on
+abbrev pub asked_to_go_on : Ask
+asked_to_go_on = record { what = Continue; head_only = false }
+
 -- what the method asks of a bucket, whose name is the i-th piece of the path
 abbrev pub asked_at_bucket : ℕ → Route → ℕ → Request → What
 asked_at_bucket n at i q =
@@ -156,19 +160,22 @@ module _ (n : ℕ) where
   asked_by head body = asked_by_method head.method (asked_of (request head.method head.target (pairs_of head) body))
 
   -- rest begins with a request: what it asks for, whether the connection ends after the answer, and what is
-  -- read next (nothing, where it ends)
+  -- read next (nothing, where it ends). A request whose client waits to be told to go on is two: that is asked first, whether the body is there or
+  -- not, and then the same request is read without what is expected
   pub data Asks (rest : List ℕ) : Ask → Bool → List ℕ → Type 0 where
     bad_head : IsBadHead rest → Asks rest asked_by_none true []
     bad_target : (head : RequestHead) (after : List ℕ) → BeginsHead rest head after
         → ¬ (IsOriginTarget head.target) → Asks rest asked_by_none true []
     bad_fields : (head : RequestHead) (after : List ℕ) (fault : Refusal) → BeginsHead rest head after
         → IsOriginTarget head.target → fields_fault head ≡ Some fault → Asks rest (asked_by_method head.method (Refused fault)) true []
+    goes_on : (head : RequestHead) (after : List ℕ) → BeginsHead rest head after → IsOriginTarget head.target → fields_fault head ≡ None
+        → waits_to_go_on head ≡ true → Asks rest asked_to_go_on false (without_expectation head ++ after)
     whole : (head : RequestHead) (body after : List ℕ) → BeginsHead rest head (body ++ after)
-        → IsOriginTarget head.target → fields_fault head ≡ None → length body ≡ body_length head
+        → IsOriginTarget head.target → fields_fault head ≡ None → waits_to_go_on head ≡ false → length body ≡ body_length head
         → Asks rest (asked_by head body) (is_last head) (if is_last head then [] else after)
 
 -- the input ends inside a request: in its head, or in its body
 pub data IsUnfinished (rest : List ℕ) : Type 0 where
   in_head : IsHeadUnfinished rest → IsUnfinished rest
   in_body : (head : RequestHead) (after : List ℕ) → BeginsHead rest head after → IsOriginTarget head.target
-      → fields_fault head ≡ None → length after < body_length head → IsUnfinished rest
+      → fields_fault head ≡ None → waits_to_go_on head ≡ false → length after < body_length head → IsUnfinished rest

@@ -1,6 +1,6 @@
 -- What the fields of a head say (RFC 9110, sections 5 and 8; RFC 9112, sections 6 and 9).
-use Rattle.std.specs.Prelude.{ℕ, Bool, false, ◌&&◌, ◌||◌, not, ◌==◌, if◌then◌else◌, nat_lt, nat_le, bytes_eq, List, [], ◌∷◌, length, map, codes, Option, Some, None, option_map, is_some, unwrap_or}
-use Rattle.std.specs.List.{list_all, list_any, before_first, slice_split}
+use Rattle.std.specs.Prelude.{ℕ, Bool, false, true, ◌++◌, ◌&&◌, ◌||◌, not, ◌==◌, if◌then◌else◌, nat_lt, nat_le, bytes_eq, List, [], ◌∷◌, length, map, codes, Option, Some, None, option_map, is_some, unwrap_or}
+use Rattle.std.specs.List.{flat_map, list_all, list_any, before_first, slice_split}
 use Rattle.std.specs.Char.{is_ascii_digit}
 use Rattle.std.specs.Str.{str_to_ascii_lowercase}
 use Rattle.std.specs.Str.Parse.{digits_value}
@@ -8,7 +8,7 @@ use Rattle.httparse.specs.Grammar.{trim_ows, RequestHead}
 use Rattle.httparse.specs.Spans.{name_and_value}
 use Rattle.http_request.specs.Limits.{longest_body}
 use Rattle.http_request.specs.declared.ask.Refusal.{Refusal}
-use Rattle.http_request.specs.declared.ask.Refusal.TheVariants.{Coding, BadLength, NoLength, Large}
+use Rattle.http_request.specs.declared.ask.Refusal.TheVariants.{Coding, BadLength, NoLength, Large, Expectation}
 
 -- a field's name and its value, without the white space around it
 abbrev pub Pair : Type 0
@@ -98,11 +98,39 @@ length_number absent = 0
 length_number bad = 0
 length_number (is n) = n
 
--- the first fault among the fields of a request with this method
-abbrev pub fault_among : List ℕ → List Pair → Option Refusal
-fault_among method pairs =
+-- the first fault among the fields that tell where the body ends, of a request with this method
+abbrev pub framing_fault : List ℕ → List Pair → Option Refusal
+framing_fault method pairs =
     if is_some (value_of (codes "transfer-encoding") pairs) then Some Coding
     else length_fault method (length_said (values_of (codes "content-length") pairs))
+
+-- what a client expects before it sends a body: nothing, to be told to go on, or something that there isn't (RFC 9110, 10.1.1)
+pub data Expected : Type 0 where
+  nothing : Expected
+  go_on : Expected
+  other : Expected
+
+abbrev pub expected_by : Option (List ℕ) → Expected
+expected_by None = nothing
+expected_by (Some value) = if bytes_eq (str_to_ascii_lowercase value) (codes "100-continue") then go_on else other
+
+-- what the first Expect field says; of HTTP/1.0 it says nothing
+abbrev pub expected_of : ℕ → List Pair → Expected
+expected_of minor pairs = if minor == 0 then nothing else expected_by (value_of (codes "expect") pairs)
+
+abbrev pub expected_fault : Expected → Option Refusal
+expected_fault nothing = None
+expected_fault go_on = None
+expected_fault other = Some Expectation
+
+-- a fault, or else another
+abbrev pub first_fault : Option Refusal → Option Refusal → Option Refusal
+first_fault (Some fault) rest = Some fault
+first_fault None rest = rest
+
+-- the first fault among the fields of a request of this version, by its minor number, with this method
+abbrev pub fault_among : ℕ → List ℕ → List Pair → Option Refusal
+fault_among minor method pairs = first_fault (framing_fault method pairs) (expected_fault (expected_of minor pairs))
 
 -- how many bytes of body the fields announce
 abbrev pub length_among : List Pair → ℕ
@@ -110,8 +138,33 @@ length_among pairs = length_number (length_said (values_of (codes "content-lengt
 
 -- the first fault of the fields, after which the connection ends
 abbrev pub fields_fault : RequestHead → Option Refusal
-fields_fault head = fault_among head.method (pairs_of head)
+fields_fault head = fault_among head.minor head.method (pairs_of head)
 
 -- how many bytes of body follow the head
 abbrev pub body_length : RequestHead → ℕ
 body_length head = length_among (pairs_of head)
+
+abbrev pub is_go_on : Expected → Bool
+is_go_on nothing = false
+is_go_on go_on = true
+is_go_on other = false
+
+-- a client that sends so many bytes of body waits to be told to go on
+abbrev pub waits_by : ℕ → List Pair → ℕ → Bool
+waits_by minor pairs len = is_go_on (expected_of minor pairs) && nat_lt 0 len
+
+-- the client waits to be told to go on, and there is a body
+abbrev pub waits_to_go_on : RequestHead → Bool
+waits_to_go_on head = waits_by head.minor (pairs_of head) (body_length head)
+
+-- a field as a line, in the fewest bytes: nothing, if it is an Expect field
+abbrev pub line_anew : Pair → List ℕ
+line_anew pair = if is_named (codes "expect") pair then [] else pair.0 ++ 58 ∷ pair.1 ++ 10 ∷ []
+
+-- a head in the fewest bytes, without Expect fields (RFC 9112, 2.2: a line may end in a line feed alone)
+abbrev pub head_anew : List ℕ → List ℕ → List Pair → List ℕ
+head_anew method target pairs = method ++ 32 ∷ target ++ codes " HTTP/1.1" ++ 10 ∷ flat_map line_anew pairs ++ 10 ∷ []
+
+-- the same request without what its client expects
+abbrev pub without_expectation : RequestHead → List ℕ
+without_expectation head = head_anew head.method head.target (pairs_of head)

@@ -21,6 +21,7 @@ abbrev pub FitsWhat : ℕ → What → Type 0
 FitsWhat n what.Ping = Unit {0}
 FitsWhat n what.Resources = Unit {0}
 FitsWhat n (what.Options route) = Unit {0}
+FitsWhat n what.Continue = Unit {0}
 FitsWhat n (what.Call call form) = Fits n call
 FitsWhat n (what.Refused refusal) = Unit {0}
 

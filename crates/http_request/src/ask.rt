@@ -6,7 +6,7 @@ use dvv::Clock;
 use key_state::{Bytes, Content, Key};
 
 /// Why a request is answered without the store, in the order in which the faults are told: the first that stands is told,
-/// and no other. After each of the first five the connection ends.
+/// and no other. After each of the first six the connection ends.
 #[derive(Clone, Copy, PartialEq, Eq)]
 pub enum Refusal {
     /// No head of at most [`MAX_HEAD_BYTES`](crate::MAX_HEAD_BYTES) bytes and [`MAX_LINES`](crate::MAX_LINES) field lines can come of
@@ -20,6 +20,8 @@ pub enum Refusal {
     NoLength,
     /// The body has more than [`MAX_BODY_BYTES`](crate::MAX_BODY_BYTES) bytes.
     Large,
+    /// There is an `Expect` of something but `100-continue`.
+    Expectation,
     /// The path is that of no [`Route`](crate::Route).
     NoRoute,
     /// This route has no such method.
@@ -124,6 +126,8 @@ pub enum What {
     Resources,
     /// Which methods a route has.
     Options(Route),
+    /// To be told to go on: the client sends the body of its request after that (RFC 9110, 10.1.1).
+    Continue,
     /// A call of the store, and how its answer is shown (only that of a [`Call::Get`] depends on it).
     Call(Call, Form),
     /// Nothing: it is refused.

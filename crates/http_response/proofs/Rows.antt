@@ -9,8 +9,8 @@ use Rattle.key_state.specs.declared.content.Sibling.{Sibling}
 use Rattle.quorum.specs.declared.fault.QuorumFault.TheVariants.{Rejected}
 use Rattle.http_request.specs.declared.ask.Ask.{Ask}
 use Rattle.http_request.specs.declared.ask.What.{What}
-use Rattle.http_request.specs.declared.ask.What.TheVariants.{Ping, Resources, Options, Call, Refused}
-use Rattle.http_request.specs.declared.ask.Refusal.TheVariants.{Method}
+use Rattle.http_request.specs.declared.ask.What.TheVariants.{Ping, Resources, Options, Continue, Call, Refused}
+use Rattle.http_request.specs.declared.ask.Refusal.TheVariants.{Expectation, Method}
 use Rattle.http_request.specs.declared.route.Route.TheVariants as route
 use Rattle.http_request.specs.declared.ask.Call.TheVariants.{Get, Put}
 use Rattle.http_request.specs.declared.ask.Form.TheVariants.{Text}
@@ -99,6 +99,16 @@ options : answer 3 (whole (Options route.Hook)) Nothing false
     ≡ line (codes "HTTP/1.1 204 No Content") ++ line (codes "Allow: PUT, DELETE, OPTIONS") ++ own_fields ++ line []
 unfolding digits whole print_answer
 options = refl
+
+continues : answer 3 (whole Continue) Nothing false ≡ line (codes "HTTP/1.1 100 Continue") ++ own_fields ++ line []
+unfolding digits whole print_answer
+continues = refl
+
+no_expectation : answer 3 (whole (Refused Expectation)) Nothing true
+    ≡ line (codes "HTTP/1.1 417 Expectation Failed") ++ line (codes "Content-Type: text/plain") ++ line (codes "Connection: close") ++ line (codes "Content-Length: 12")
+    ++ own_fields ++ line [] ++ codes "expectation" ++ 10 ∷ []
+unfolding digits whole print_answer
+no_expectation = refl
 
 no_method : answer 3 (whole (Refused (Method route.Props))) Nothing false
     ≡ line (codes "HTTP/1.1 405 Method Not Allowed") ++ line (codes "Content-Type: text/plain") ++ line (codes "Content-Length: 7")

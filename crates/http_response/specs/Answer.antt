@@ -26,13 +26,13 @@ use Rattle.http_request.specs.declared.ask.Ask.{Ask}
 use Rattle.http_request.specs.declared.ask.Call as asked
 use Rattle.http_request.specs.declared.ask.Call.TheVariants as call
 use Rattle.http_request.specs.declared.ask.What.{What}
-use Rattle.http_request.specs.declared.ask.What.TheVariants.{Ping, Resources, Options, Call, Refused}
+use Rattle.http_request.specs.declared.ask.What.TheVariants.{Ping, Resources, Options, Continue, Call, Refused}
 use Rattle.http_request.specs.declared.route.Route.{Route}
 use Rattle.http_request.specs.declared.route.Route.TheVariants as route
 use Rattle.http_request.specs.declared.ask.Form.{Form}
 use Rattle.http_request.specs.declared.ask.Form.TheVariants.{Text, Parts, One}
 use Rattle.http_request.specs.declared.ask.Refusal.{Refusal}
-use Rattle.http_request.specs.declared.ask.Refusal.TheVariants.{BadHead, Coding, BadLength, NoLength, Large, NoRoute, Method, Query, BadName, Token, BadType, BadProps, FixedProperty}
+use Rattle.http_request.specs.declared.ask.Refusal.TheVariants.{BadHead, Coding, BadLength, NoLength, Large, Expectation, NoRoute, Method, Query, BadName, Token, BadType, BadProps, FixedProperty}
 use Rattle.http_request.specs.declared.ask.Property.{Property}
 use Rattle.http_request.specs.declared.ask.Property.TheVariants.{AllowMult, LastWriteWins, NVal, PostCommit}
 use Rattle.http_response.specs.declared.reply.Reply.{Reply}
@@ -104,6 +104,10 @@ methods_of route.TypedProps = codes "GET, HEAD, PUT, DELETE, OPTIONS"
 abbrev pub options_answer : Route → Answer
 options_answer at = record empty_answer { allow = Some (methods_of at) }
 
+-- the client may go on (RFC 9110, 15.2.1)
+abbrev pub continue_answer : Answer
+continue_answer = record empty_answer { status = codes "100 Continue" }
+
 -- where the resources lie (Riak KV, HTTP API, list resources, as JSON)
 abbrev pub resources_answer : Answer
 resources_answer = record (told (codes "200 OK")
@@ -148,6 +152,7 @@ refusal_answer Coding = line_told (codes "501 Not Implemented") (codes "coding")
 refusal_answer BadLength = line_told bad_request (codes "bad length")
 refusal_answer NoLength = line_told (codes "411 Length Required") (codes "length")
 refusal_answer Large = line_told (codes "413 Payload Too Large") (codes "large")
+refusal_answer Expectation = line_told (codes "417 Expectation Failed") (codes "expectation")
 refusal_answer NoRoute = line_told (codes "404 Not Found") (codes "no route")
 refusal_answer (Method at) = record (line_told (codes "405 Method Not Allowed") (codes "method")) { allow = Some (methods_of at) }
 refusal_answer Query = line_told bad_request (codes "bad query")
@@ -309,6 +314,7 @@ module _ (copies : ℕ) where
   abbrev pub answer_to : What → Reply → Answer
   answer_to Resources reply = resources_answer
   answer_to (Options at) reply = options_answer at
+  answer_to Continue reply = continue_answer
   answer_to Ping reply = told (codes "200 OK") (codes "OK")
   answer_to (Call c form) reply = call_answer c form reply
   answer_to (Refused refusal) reply = refusal_answer refusal

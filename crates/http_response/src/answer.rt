@@ -52,6 +52,7 @@ pub fn push_answer(
         What::Ping => push_line(out, HERE, how),
         What::Resources => push_told(out, b"200 OK", b"application/json", RESOURCES, how),
         What::Options(route) => push_methods(out, *route, how),
+        What::Continue => push_continue(out, how),
         What::Refused(refusal) => push_line(out, of_refusal(*refusal), how),
         What::Call(call, form) => push_reply(out, text, Asked { copies, call, form }, reply, how),
     }
@@ -67,6 +68,21 @@ fn push_methods(out: &mut Vec<u8>, route: Route, how: Telling) -> Result<(), All
         context: None,
         tag: None,
         allow: Some(methods_of(route)),
+        body: None,
+    };
+    push_parts(out, &answer, how)
+}
+
+// Adds that the client may go on.
+fn push_continue(out: &mut Vec<u8>, how: Telling) -> Result<(), AllocError>
+    ensures { OnOk result (out.new.items ≡ out.old.items ++ print_answer spec.continue_answer how) }
+{
+    let answer = Answer {
+        status: b"100 Continue",
+        media: None,
+        context: None,
+        tag: None,
+        allow: None,
         body: None,
     };
     push_parts(out, &answer, how)

@@ -111,6 +111,7 @@ pub(crate) fn of_refusal(refusal: Refusal) -> Line<'static>
         Refusal::BadLength => told(BAD_REQUEST, b"bad length\n"),
         Refusal::NoLength => told(b"411 Length Required", b"length\n"),
         Refusal::Large => told(b"413 Payload Too Large", b"large\n"),
+        Refusal::Expectation => told(b"417 Expectation Failed", b"expectation\n"),
         Refusal::NoRoute => told(NOT_FOUND, b"no route\n"),
         Refusal::Method(route) => Line {
             status: b"405 Method Not Allowed",

@@ -19,6 +19,7 @@ HOOKS = HERE.parent / "hooks"
 VNODES = 3
 
 PHRASES = {
+    100: "Continue",
     200: "OK",
     204: "No Content",
     300: "Multiple Choices",
@@ -30,6 +31,7 @@ PHRASES = {
     411: "Length Required",
     412: "Precondition Failed",
     413: "Payload Too Large",
+    417: "Expectation Failed",
     422: "Unprocessable Entity",
     500: "Internal Server Error",
     501: "Not Implemented",
@@ -631,6 +633,7 @@ CODING = 501, "coding"
 BAD_LENGTH = 400, "bad length"
 NO_LENGTH = 411, "length"
 LARGE = 413, "large"
+EXPECTATION = 417, "expectation"
 NO_ROUTE = 404, "no route"
 QUERY = 400, "bad query"
 BAD_NAME = 400, "bad name"
@@ -668,6 +671,15 @@ BROKEN = [
     ("PUT /buckets/b/keys/k HTTP/1.1\r\nContent-Length: 65537\r\n\r\n", LARGE),
     ("GET /ping HTTP/1.1\r\nContent-Length: 65537\r\n\r\n", LARGE),
     ("GET /ping HTTP/1.1\r\nContent-Length: 18446744073709551617\r\n\r\n", LARGE),
+    # an expectation that there isn't, and no route; what is wrong with lengths comes first
+    ("PUT /x HTTP/1.1\r\nExpect: 200-ok\r\nContent-Length: 1\r\n\r\n", EXPECTATION),
+    ("GET /ping HTTP/1.1\r\nExpect:\r\n\r\n", EXPECTATION),
+    ("GET /ping HTTP/1.1\r\nExpect: 100-continue, x\r\n\r\n", EXPECTATION),
+    ("PUT /x HTTP/1.1\r\nexpect: 100-continued\r\nExpect: 100-continue\r\nContent-Length: 1\r\n\r\n", EXPECTATION),
+    ("PUT /x HTTP/1.1\r\nExpect: x\r\nTransfer-Encoding: chunked\r\n\r\n", CODING),
+    ("PUT /x HTTP/1.1\r\nExpect: x\r\nContent-Length: x\r\n\r\n", BAD_LENGTH),
+    ("PUT /x HTTP/1.1\r\nExpect: 100-continue\r\n\r\n", NO_LENGTH),
+    ("PUT /x HTTP/1.1\r\nExpect: 100-continue\r\nContent-Length: 65537\r\n\r\n", LARGE),
     # too large a body and no route
     ("PUT /x HTTP/1.1\r\nContent-Length: 65537\r\n\r\n", LARGE),
 ]
@@ -890,6 +902,46 @@ def riak():
     # What was read may be set.
     read = '{"allow_mult":true,"n_val":3,"precommit":null,"resolver":null,"name":"b","last_write_wins":false,"r":"quorum","w":"quorum"}'
     yield bind("b", read), done()
+
+
+def expects():
+    """Clients that wait to be told to go on with a body, and those that say so where there is nothing to wait for."""
+    key = Key("b", "k")
+    one = key.vnode()
+    waits, go_on = "Expect: 100-continue", answer(100)
+    # The interim answer comes once the head is whole, whether the body is there or not, and the answer behind it.
+    yield request(f"PUT {key.target}", typed(TEXT), waits, body="a"), go_on + written(one, 1)
+    yield request(f"GET {key.target}"), value({one: 1}, "a")
+    yield request(f"POST {key.target}", "eXPECT: 100-Continue", typed("b/c"), seen({one: 1}), body="bc" * 500), go_on + written(one, 2)
+    yield request(f"GET {key.target}"), value({one: 2}, "bc" * 500, "b/c")
+    # Of a field that comes twice the first counts, and spaces around its value don't.
+    yield request(f"PUT {key.target}", f"{waits} \t", seen({one: 2}), "Expect: x", body="c"), go_on + written(one, 3)
+    yield f"PUT {key.target} HTTP/1.1\nexpect:100-continue\nX-Riak-Vclock:{context({one: 3})}\nContent-Length:1\n\nd".encode(), go_on + written(one, 4)
+    yield request(f"GET {key.target}"), value({one: 4}, "d", OCTETS)
+    # With no body, and of HTTP/1.0, nothing is waited for.
+    yield request(f"PUT {key.target}", waits, seen({one: 4}), body=""), written(one, 5)
+    yield ping(waits), pong()
+    # What is wrong but with the head is told once the body is there.
+    yield request("PUT /none", waits, body="a"), go_on + told(*NO_ROUTE)
+    yield request(f"PUT {key.target}?w=0", waits, body="a"), go_on + told(*QUERY)
+    yield request("HEAD /ping", waits, body="GET /ping HTTP/1.1\r\n\r\n"), go_on + head_of(pong())
+    yield request("PUT /ping", waits, "Connection: close", body="a"), go_on + told(*no_method("ping"), closes=True)
+    yield ping(), NOTHING
+    for bytes_sent, answered in [
+        # The body, or the end of it, never comes.
+        (f"PUT {key.target} HTTP/1.1\r\n{waits}\r\nContent-Length: 2\r\n\r\n", go_on),
+        (f"PUT {key.target} HTTP/1.1\r\n{waits}\r\nContent-Length: 2\r\n\r\na", go_on),
+        (f"PUT {key.target} HTTP/1.1\r\n{waits}\r\nContent-Length: 2\r\n\r", NOTHING),
+        (f"GET /ping HTTP/1.0\r\n{waits}\r\n\r\n", pong(closes=True)),
+        (f"GET /ping HTTP/1.0\r\nExpect: x\r\nContent-Length: 1\r\n\r\na", pong(closes=True)),
+        # The longest head and the longest body.
+        (
+            f"PUT {key.target} HTTP/1.1\r\n{waits}\r\nContent-Length: 65536\r\nX: ".ljust(32_764, "x") + "\r\n\r\n" + "a" * 65_536,
+            go_on + written(one, 1),
+        ),
+    ]:
+        yield NEXT
+        yield as_bytes(bytes_sent), answered
 
 
 def limits():
@@ -1221,6 +1273,7 @@ DIALOGUES = {
     "broken": broken,
     "cart": cart,
     "changes": changes,
+    "expects": expects,
     "hooks": hooks,
     "images": images,
     "limits": limits,

@@ -8,6 +8,6 @@ returns-in-None c =
       c.requires.head.0.section.len_fits,
       λ e. absurd (search (e, rules)),
       tt,
-      no_target c.args.copies c.args.bytes.now c.args.lines.now c.args.spans h.0 h.1 h.2 h.0.method _ refl (c.of.ensures ∙ h.1.path)
+      no_target c.args.copies c.args.bytes.now c.args.lines.now c.args.spans h.0 h.1 h.2 h.0.method _ refl (c.of.ensures ∙ h.1.path) _ h.1.version
           (rw c.in-None.is at c.target_of.ensures.none),
     )

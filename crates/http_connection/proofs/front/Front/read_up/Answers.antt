@@ -1,5 +1,7 @@
-use Rattle.std.proofs.Common.{arith, ap, ◌∙◌, ◌++◌, length-append, append_assoc}
-use Rattle.std.proofs.KnownBytes.{Consumes-trans}
+use Rattle.std.proofs.Common.{arith, ap, sym, subst, ◌∙◌, ◌++◌, length-append, append_assoc}
+use Rattle.std.proofs.KnownBytes.{Consumes-trans, Consumes-kept}
+use Rattle.http_connection.specs.Pending.{IsPending}
+use Rattle.http_connection.proofs.RequestLemmas.{if_err_and}
 use Rattle.http_connection.proofs.front.Front.read_up.Goals as goal
 
 pub reads-preserved : goal.reads-preserved
@@ -18,3 +20,13 @@ reads-preserved g c =
       left = omega (arith, so.left, c.in_ok-n.ensures.left);
       fewer = λ some. omega (arith, so.left, c.in_ok-n.ensures.ends);
     }
+
+pub returns-in_err-n-clause-unread : goal.returns-in_err-n-clause-unread
+returns-in_err-n-clause-unread g c =
+    if_err_and c.from_residual.result _ _ c.from_residual.ensures.1
+    (λ fault same is.
+    let so = c.reads.invariant in
+    let kept = c.in_err-n.ensures.kept (sym same ∙ is) in (
+      (so.came.0, kept.0 ∙ so.came.2, Consumes-kept _ _ _ so.came.0 so.came.3 kept.1),
+      subst IsPending (sym kept.0) so.pending,
+    ))

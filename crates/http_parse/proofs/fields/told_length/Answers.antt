@@ -5,7 +5,7 @@ use Rattle.httparse.specs.Spans.{header_bytes}
 use Rattle.http_request.specs.declared.ask.Refusal.TheVariants.{NoLength}
 use Rattle.http_request.specs.Fields.{absent, bad, is, length_number}
 use Rattle.http_parse.proofs.FieldLemmas.{none_copied, fault_by_length, said_none, said_well, said_badly, said_twice, small_length, large_length}
-use Rattle.http_parse.proofs.fields.body_length.Goals as goal
+use Rattle.http_parse.proofs.fields.told_length.Goals as goal
 
 pub returns-then-needs_length-clause-fault : goal.returns-then-needs_length-clause-fault
 returns-then-needs_length-clause-fault c =
