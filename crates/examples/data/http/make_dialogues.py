@@ -421,9 +421,14 @@ def shown_to_pre_commits():
     yield request(f"DELETE {many.target}"), told(409, "P2")
     yield bind("b", '{"precommit":"used"}'), done()
     yield install("used", few_slots(PRE_COMMIT, answering(0), in_len=1575)), done()
-    yield request(f"DELETE {many.target}", seen({0: 64})), told(413, "X1")
+    yield request(f"DELETE {many.target}"), told(413, "X1")
     yield request(f"GET {many.target}"), choices({0: 64}, *((0, n) for n in range(1, 65)))
     yield install("used", few_slots(PRE_COMMIT, answering(0), in_len=1576)), done()
+    yield request(f"DELETE {many.target}"), told(409, "P2")
+    # Where they don't fit it is shown beside those alone that its writer hadn't seen: in 64 bytes beside one of them, in 40 by itself.
+    yield install("used", few_slots(PRE_COMMIT, answering(0), in_len=63)), done()
+    yield request(f"DELETE {many.target}", seen({0: 63})), told(413, "X1")
+    yield install("used", few_slots(PRE_COMMIT, answering(0), in_len=40)), done()
     yield request(f"DELETE {many.target}", seen({0: 64})), written(0, 65)
     yield request(f"GET {many.target}"), not_found({0: 65})
     # The first and the last code of a refusal, and answers that are none.
@@ -1093,7 +1098,7 @@ def spelled():
     yield request("GET /buckets/b/props"), properties("b", None, None)
 
     # A body and fields that nothing uses, and two fields `Connection` of which none has `close`.
-    yield b"GET /ping HTTP/1.1\r\nExpect: 100-continue\r\nContent-Length: 2\r\nContent-Length: 02\r\n\r\nab", pong()
+    yield b"GET /ping HTTP/1.1\r\nExpect: 100-continue\r\nContent-Length: 2\r\nContent-Length: 02\r\n\r\nab", answer(100) + pong()
     yield b"GET /ping HTTP/1.1\r\nConnection: closed\r\nConnection: keep-alive\r\n\r\n", pong()
 
 
