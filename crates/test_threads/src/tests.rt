@@ -13,7 +13,6 @@ mod refusals;
 mod requests;
 mod rounds;
 mod running;
-mod seeds;
 mod sharing;
 mod standing;
 mod watching;

@@ -1,6 +1,0 @@
-//! Tests of the layer `log`.
-
-mod file;
-mod notes;
-mod tail;
-mod writer;
