@@ -5,6 +5,7 @@ use crate::keeper::{Address, Door, Stay, Unbegun};
 use crate::reasons::bind;
 use crate::session;
 use crate::session::{Left, Making};
+use crate::spread::Spread;
 use crate::system_folder::SystemFolder;
 use crate::tests::two_tables;
 use audit_faults::{Followed, WatchFault};
@@ -91,7 +92,10 @@ fn kept_store(rt: HostRuntime) -> Result<(), Fail> {
     let making = Making {
         first: BEFORE + VNODES_PER_NUMBER,
         seed: Seed::fixed(),
-        copies: 3,
+        spread: Spread {
+            vnodes: 3,
+            copies: 3,
+        },
     };
     let tables = two_tables(alloc)?;
     let host = Host { alloc, rt: &rt };
