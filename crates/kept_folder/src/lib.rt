@@ -13,8 +13,6 @@ mod names;
 mod opening;
 mod sealing;
 mod settings;
-#[cfg(test)]
-mod tests;
 mod writing;
 
 pub use files::{FileFault, Folder};

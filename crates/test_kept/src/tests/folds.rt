@@ -1,8 +1,8 @@
 //! What files of former starts hold once they are folded.
 
-use crate::fold_files;
 use dvv::{Dot, VNODES_PER_NUMBER};
 use kept_file::KeptFile;
+use kept_fold::fold_files;
 use key_state::{Bytes, Content, Key, KeyState};
 use record_codec::Record;
 use std::alloc::{AllocError, Global};
