@@ -7,8 +7,6 @@ mod fold;
 pub mod laws;
 mod limits;
 mod stale;
-#[cfg(test)]
-mod tests;
 
 pub use fold::fold_files;
 pub use limits::{FOLD_INDEX, MAX_FORMER_ENTRIES};

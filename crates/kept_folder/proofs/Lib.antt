@@ -1,5 +1,6 @@
 mod Seals
 mod Reading
+mod Logging
 mod Putting
 mod Storing
 mod Setting

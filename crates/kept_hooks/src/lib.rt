@@ -12,8 +12,6 @@ mod refused;
 mod replaying;
 mod request;
 mod standing;
-#[cfg(test)]
-mod tests;
 mod writes;
 
 pub use beginning::{BegunHooks, begin_hooks};

@@ -1,13 +1,13 @@
 //! What vnodes held is read again, where all held it and where they didn't.
 
-use super::memory::Memory;
-use super::{MANY, expect};
-use crate::{Held, keep_all, open};
+use crate::tests::memory::{MANY, Memory};
+use kept_folder::{Held, keep_all, open};
 use key_state::{Bytes, Content, Key, KeyState};
 use record_codec::Record;
 use std::alloc::Global;
 use std::test::Fail;
 use std::thread::Threads;
+use test_support::expect;
 use vnode::Vnode;
 
 /// Keys in the order of bytes, each with a value.
@@ -80,9 +80,9 @@ fn are_of(records: &[Record], written: Written) -> bool {
 #[test]
 fn what_was_held_is_read(rt: HostRuntime) -> Result<(), Fail> {
     let held = written_and_read(&rt, rt.alloc())?;
-    expect(held.files.len() == WRITTEN.len(), 0)?;
+    expect(held.files.len() == WRITTEN.len(), &held.files.len())?;
     for (file, written) in held.files.iter().zip(WRITTEN) {
-        expect(are_of(&file.records, written), u64::from(file.from))?;
+        expect(are_of(&file.records, written), &file.from)?;
     }
     Ok(())
 }

@@ -1,9 +1,24 @@
 //! A folder in memory, which ends after so many operations: then what was forced stands, and of the rest nothing.
 
-use crate::{FileFault, Folder};
+use kept_folder::{FileFault, Folder, Opened, open};
 use std::alloc::Global;
 use std::io;
 use std::io::Write;
+use std::thread::Threads;
+
+/// More operations than any test does.
+pub const MANY: u64 = 1_000;
+
+/// A start, or a replacement, does four: it creates a file, forces it, renames it, and forces the names.
+pub const WHOLE: u64 = 4;
+
+/// The minute of the starts that are no later than the first.
+pub const MINUTE: u32 = 7;
+
+/// What a start finds and takes.
+pub fn begin<R: Threads + Sync>(rt: &R, alloc: Global, folder: &mut Memory) -> Option<Opened> {
+    open(alloc, rt, folder, MINUTE).ok()
+}
 
 /// A file's name and bytes.
 #[derive(Drop)]
@@ -55,9 +70,12 @@ impl Memory {
         self.left = operations;
     }
 
-    /// How many operations are left.
-    pub fn left(&self) -> u64 {
-        self.left
+    /// Lays a file into the folder. No operation is counted.
+    pub fn lay(&mut self, name: &str, bytes: &[u8]) -> Result<(), FileFault> {
+        self.set(
+            String::from_str(self.alloc, name)?,
+            bytes.to_vec(self.alloc)?,
+        )
     }
 
     // Counts an operation.
@@ -105,6 +123,17 @@ impl Folder for Memory {
             }
         }
         Ok(None)
+    }
+
+    fn names(&self, alloc: Global) -> Result<Vec<String>, FileFault> {
+        let mut names = Vec::new(alloc);
+        for file in &self.files {
+            let name = String::from_str(alloc, file.name.as_str())?;
+            if names.push(name).is_err() {
+                return Err(FileFault::NoMemory);
+            }
+        }
+        Ok(names)
     }
 
     fn create(&mut self, name: &str) -> Result<MemoryFile, FileFault> {

@@ -1,0 +1,9 @@
+//! The tests by what is tried.
+
+mod alike;
+mod folds;
+mod hooks;
+mod memory;
+mod replacing;
+mod settings;
+mod starts;
