@@ -11,7 +11,7 @@ use Rattle.kept_file.specs.Numbers.{all_ids}
 use Rattle.kept_file.specs.Placed.{ArePlaced}
 use Rattle.kept_file.specs.declared.file.KeptFile.{KeptFile}
 use Rattle.kept_folder.specs.Numbers.{number_text}
-use Rattle.kept_folder.specs.Reads.{IsHeldIn, IsReadAt}
+use Rattle.kept_folder.specs.Reads.{AreAllFiles, IsHeldIn, IsReadAt, most_vnodes}
 use Rattle.kept_folder.specs.Seals.{sealed}
 use Rattle.kept_folder.specs.Settings.{IsSetBy}
 use Rattle.kept_folder.specs.Steps.{IsPut, Step}
@@ -31,7 +31,8 @@ module _ {F : Type 0} (finds : F → List ℕ → Option (List ℕ) → Type 0) 
   -- A start has read all files of a folder and taken a number, which stands there from then on. No start before had it, nor has an identifier that the files name, and
   -- it is no less than the minute.
   pub record IsOpened (minute : ℕ) (old : F) (opened : Opened) (mid : F) : Type 0 where
-    pub read : (index : ℕ) → index < 3 → IsReadAt (finds old) opened.held.files.items index
+    pub read : (index : ℕ) → index < most_vnodes → IsReadAt (finds old) opened.held.files.items index
+    pub files : AreAllFiles (finds old) opened.held.logs opened.held.files.items
     pub hooks : IsHeldIn (finds old) (codes "hooks.requests") opened.held.hooks.items
     pub set : (found : Option (List ℕ)) × finds old (codes "settings") found × IsSetBy found opened.held.settings
     pub next : (last : ℕ) → opened.held.last ≡ Some last → last < opened.number

@@ -154,6 +154,7 @@ impl<N, F: Drop> Stay<'_, N, F> {
             settings,
             hooks,
             files,
+            logs,
         } = held;
         let files = fold_files(alloc, files, number)?;
         let held = Held {
@@ -161,6 +162,7 @@ impl<N, F: Drop> Stay<'_, N, F> {
             settings,
             hooks,
             files,
+            logs,
         };
         Ok(Stay {
             folder,

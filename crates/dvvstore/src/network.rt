@@ -14,7 +14,7 @@ use crate::keeper::{Address, Door, Stay, Unbegun};
 use crate::reasons::bind;
 use crate::session;
 use crate::session::{Left, Making};
-use crate::spread::{Spread, copies_of, vnodes_of};
+use crate::spread::{Spread, copies_of};
 use crate::start::{minute_at, start_at};
 use crate::system_folder::{SystemFolder, take};
 use audit_cluster::{Closed, Verdict};
@@ -23,13 +23,13 @@ use bpf_helpers::Table;
 use commands::server::{Ended, Post, Says, Server, Site, Unserved};
 use dvv::VNODES_PER_NUMBER;
 use kept_file::placed;
-use kept_folder::{Folder, Held, OpenFault, Opened, Unreplaced, keep_all, keep_number};
+use kept_folder::{Folder, Held, Logs, OpenFault, Opened, Unreplaced, keep_all, keep_number};
 use kept_hooks::Requests;
 use server_accept::{Bound, Setup, open, tell_listening};
 use std::alloc::{AllocError, Global};
 use std::fmt::Display;
 use std::io;
-use std::io::{ErrorKind, Stderr, Stdin, Write};
+use std::io::{Eprint as _, ErrorKind, Stderr, Stdin, Write};
 use std::net::{Net, TcpListener, TcpStream};
 use std::random::RandomSource;
 use std::rt::Clock;
@@ -245,7 +245,8 @@ fn keep_over<
         Err(why) => return Err(refused(host.alloc, out, &why)),
     };
     let Opened { number, held } = opened;
-    let spread = Spread::among(vnodes_of(&held.files), tables.len(), held.settings.copies);
+    tell_cut(err, held.logs);
+    let spread = Spread::among(held.vnodes(), tables.len(), held.settings.copies);
     let Ok(held) = held_for(host.alloc, spread, held) else {
         return Err(Unserved::NoMemory);
     };
@@ -279,6 +280,7 @@ fn held_for(alloc: Global, spread: Spread, held: Held) -> Result<Held, AllocErro
         settings,
         hooks,
         files,
+        logs,
     } = held;
     let files = placed(alloc, &spread.placement(), &files)?;
     Ok(Held {
@@ -286,7 +288,17 @@ fn held_for(alloc: Global, spread: Spread, held: Held) -> Result<Held, AllocErro
         settings,
         hooks,
         files,
+        logs,
     })
+}
+
+/// Tells how many bytes of the newest log are passed over, if any are. What can't be told is lost.
+fn tell_cut(err: Stderr, logs: Option<Logs>) {
+    if let Some(Logs { last, torn, .. }) = logs {
+        if torn > 0 {
+            let _ = err.eprintln(format_args!("log-{last}: {torn} bytes cut"));
+        }
+    }
 }
 
 /// What is said of the journals of a store that was served.

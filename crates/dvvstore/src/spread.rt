@@ -4,8 +4,6 @@ ghost use Rattle.std.specs.Prelude.{◌≡◌, ◌<◌, ◌≤◌, IfSome};
 ghost use Rattle.dvvstore.specs.Crews.{by_digest};
 
 use crate::limits::{MAX_VNODES, VNODES_PER_WORKER};
-use dvv::VNODES_PER_NUMBER;
-use kept_file::KeptFile;
 use ring::{MAX_COPIES, Placement};
 
 /// Among how many vnodes the keys of a store are spread, and how many copies there are of each.
@@ -65,13 +63,4 @@ pub fn copies_of(asked: u32) -> u32
     ensures right { 0 < asked → asked ≤ 3 → result ≡ asked }
 {
     asked.max(1).min(MAX_COPIES)
-}
-
-/// Of how many vnodes files are: one more than the greatest index, and none where there is no file.
-pub fn vnodes_of(files: &[KeptFile]) -> Option<u32> {
-    let mut most = None;
-    for file in files {
-        most = most.max(Some(file.from % VNODES_PER_NUMBER + 1));
-    }
-    most
 }

@@ -9,7 +9,6 @@ use crate::fault::LoadFault;
 use crate::loads::{Loading, Throttle};
 use crate::side_by_side::processors;
 use cluster::{Pass, Room};
-use dvv::VNODES_PER_NUMBER;
 use kept_file::KeptFile;
 use record_codec::Record;
 use std::alloc::{AllocError, Global};
@@ -106,7 +105,7 @@ fn records_of(files: &[KeptFile], index: usize) -> &[Record]
     ensures { result.now ≡ records_at files.now index }
 {
     for file in files {
-        if (file.from % VNODES_PER_NUMBER) as usize == index {
+        if file.from.is_of(index) {
             return &file.records;
         }
     }

@@ -10,7 +10,7 @@ use crate::system_folder::SystemFolder;
 use crate::tests::two_tables;
 use audit_faults::{Followed, WatchFault};
 use dvv::{Clock, VNODES_PER_NUMBER};
-use kept_file::KeptFile;
+use kept_file::{KeptFile, Source};
 use kept_folder::{Held, Settings};
 use key_state::{Content, Key, KeyState};
 use record_codec::Record;
@@ -43,7 +43,10 @@ fn file_of(alloc: Global, from: u32) -> Result<KeptFile, Fail> {
             state,
         })?;
     }
-    Ok(KeptFile { from, records })
+    Ok(KeptFile {
+        from: Source::Vnode(from),
+        records,
+    })
 }
 
 /// How many entries the journals of a store have that is kept, and what is said of them.
@@ -80,6 +83,7 @@ fn kept_store(rt: HostRuntime) -> Result<(), Fail> {
             },
             hooks: Vec::new(alloc),
             files,
+            logs: None,
         },
         door: Door::Closed(Address {
             rt: &rt,

@@ -28,7 +28,7 @@ returns-in-Ok-Kept-clause-kept g c =
     let spread = c.among.result in
     let tables = map (λ t. t.listed) c.args.keeping.tables.items in
     let size : Size = record { first = opened.number * 256; vnodes = spread.vnodes; passes = vec_len c.args.keeping.tables + spread.vnodes + 1 } in
-    let opens = record { read = did.read; hooks = did.hooks; set = did.settings; next = did.next; above = did.above; minute = did.minute; put = did.put } in
+    let opens = record { read = did.read; files = did.files; hooks = did.hooks; set = did.settings; next = did.next; above = did.above; minute = did.minute; put = did.put } in
     kept_over finds does c.args.keeping.minute tables c.args.folder.now c.open.new.folder c.finish.new.folder opened size c.in-Ok-held.held.files.items c.in-Ok-Kept.served c.finish.result
     opens refl spread.ok.some spread.ok.many c.in-Ok-held.ensures.placed c.in-Ok-Kept.ensures.kept c.in-Ok-Kept.ensures.served c.finish.ensures.says c.finish.ensures.put
 
