@@ -78,17 +78,23 @@ module _ {F : Type 0} (does : F → Step → F → Type 0) (folder : F) (first :
   abbrev pub AreAllKept : List View → List View → ℕ → Type 0
   AreAllKept old new keys = (counts : List ℕ) × AreKeptBy 0 old new counts × (keys ≡ min (sum counts) (2 ^ 64 - 1))
 
+-- these are the requests that make hooks what they are, of which none is lacking
+abbrev pub IsWholeList : List ℕ → Type 0
+IsWholeList held = (requests : Listed) × (requests.whole ≡ true) × (held ≡ all_spelled requests.requests)
+
+-- they were put
+abbrev pub AreListed : {F : Type 0} → (F → Step → F → Type 0) → F → F → Type 0
+AreListed does old new = (held : List ℕ) × IsWholeList held × IsPut does old (codes "hooks.requests") (sealed held) new
+
 module _ {F : Type 0} (finds : F → List ℕ → Option (List ℕ) → Type 0) (does : F → Step → F → Type 0) where
   -- the number of a start is there: it was put where it was lacking
   abbrev pub HasNumber : ℕ → F → F → Type 0
   HasNumber number old new =
       (found : Option (List ℕ)) × finds old (codes "incarnation") found × MatchOption found (IsPut does old (codes "incarnation") (sealed (number_text number)) new) (λ bytes. new ≡ old)
 
-  -- behind the files of vnodes that of requests was put, which make hooks what they are and of which none is lacking, and the number of the start is there
+  -- so they were behind the files of vnodes, and the number of the start is there
   abbrev pub IsRestKept : ℕ → F → F → Type 0
-  IsRestKept number old new =
-      (requests : Listed) × (requests.whole ≡ true)
-      × ((mid : F) × IsPut does old (codes "hooks.requests") (sealed (all_spelled requests.requests)) mid × HasNumber number mid new)
+  IsRestKept number old new = (mid : F) × AreListed does old mid × HasNumber number mid new
 
   -- a snapshot of vnodes, numbered from the first on, by these passes: all files were put, and so many keys are told
   abbrev pub IsKept : ℕ → F → List View → List View → F → ℕ → Type 0

@@ -1,7 +1,7 @@
 //! Snapshots of a store that is kept, beside its workers.
 
-ghost use Rattle.std.specs.Prelude.{◌≡◌, ◌<◌, ◌≤◌, ◌+◌, ◌/◌, ◌-◌, ◌^◌, ◌&&◌, ◌||◌, ℕ, List, [], Ok, IfOk, false, map, max, min, nat_eq, nat_le, not, sum, vec_capacity, vec_len};
-ghost use Rattle.dvvstore.specs.Asides.{AllRead, AreAllKept, IsKept, IsKeptBy, IsRestKept, Reads};
+ghost use Rattle.std.specs.Prelude.{◌≡◌, ◌<◌, ◌≤◌, ◌+◌, ◌/◌, ◌-◌, ◌^◌, ◌&&◌, ◌||◌, ℕ, List, [], Ok, IfOk, OnOk, false, map, max, min, nat_eq, nat_le, not, sum, vec_capacity, vec_len};
+ghost use Rattle.dvvstore.specs.Asides.{AllRead, AreAllKept, AreListed, IsKept, IsKeptBy, IsRestKept, Reads};
 
 mod stride;
 
@@ -88,6 +88,7 @@ pub struct Saver<F> {
 impl<F: Folder + Copy + Send + Sync> Saver<F> {
     /// Makes snapshots until all workers have ended, by calls on the vnodes through passes: what each is told comes behind what it was told
     /// before. One that is under way when the server is told to stop is given up, and another begins. The passes come back.
+    #[tactic(auto, using(crate::proofs::Growing::all_read_same))]
     pub fn run<B: Room + Send + Sync, R: Threads + Wait + Sync>(
         &mut self,
         rt: &R,
@@ -140,7 +141,10 @@ impl<F: Folder + Copy + Send + Sync> Saver<F> {
             signs.note_written(true);
         }
         self.tell(&came, timer.now().saturating_sub(begin));
-        (spares, came.unwrap_or(0))
+        match came {
+            Ok(keys) => (spares, keys),
+            Err(_) => (spares, 0),
+        }
     }
 
     /// Tells a snapshot that took so many milliseconds, or why some of it is not kept. One that is given up is not told. What can't be told is
@@ -171,28 +175,23 @@ impl<F: Folder + Copy + Send + Sync> Saver<F> {
         ensures put { IfOk result.1 (IsKept F.finds F.does self.old.shelf.first self.old.shelf.folder spares.items result.0.items self.new.shelf.folder) }
     {
         let (spares, came) = self.write_vnodes(rt, cluster, spares, signs);
-        let came = match came {
-            Ok(keys) => self.write_rest(rt, signs, keys),
-            Err(unreplaced) => Err(unreplaced),
-        };
-        (spares, came)
+        (spares, self.write_rest(rt, signs, came))
     }
 
-    /// Replaces the file of the requests that install and bind hooks, and has the number of the start be there, behind the files of vnodes
-    /// that have so many keys.
+    /// Replaces the file of the requests that install and bind hooks, and has the number of the start be there, where the files of vnodes were
+    /// replaced, of which came so many keys.
     fn write_rest<R: Wait>(
         &mut self,
         rt: &R,
         signs: &Signs<'_>,
-        keys: usize,
+        came: Result<usize, Unreplaced>,
     ) -> Result<usize, Unreplaced>
-        ensures put { IfOk result (λ told. (told ≡ keys) × IsRestKept F.finds F.does (self.old.shelf.first / 256) self.old.shelf.folder self.new.shelf.folder) }
+        ensures put { IfOk result (λ keys. (came ≡ Ok keys) × IsRestKept F.finds F.does (self.old.shelf.first / 256) self.old.shelf.folder self.new.shelf.folder) }
     {
+        let keys = came?;
         let number = self.shelf.number();
-        let Shelf { alloc, folder, .. } = &mut self.shelf;
-        let requests = signs.requests(rt).unwrap_or(None);
-        keep_requests(*alloc, folder, requests.as_deref())?;
-        keep_number(*alloc, folder, number)?;
+        self.shelf.write_requests(rt, signs)?;
+        keep_number(self.shelf.alloc, &mut self.shelf.folder, number)?;
         Ok(keys)
     }
 
@@ -273,6 +272,16 @@ impl<F: Folder + Copy> Shelf<F> {
 }
 
 impl<F: Folder> Shelf<F> {
+    /// Replaces the file of the requests that install and bind hooks. It stays where one of them is lacking, or memory for them.
+    fn write_requests<R: Wait>(&mut self, rt: &R, signs: &Signs<'_>) -> Result<(), Unreplaced>
+        ensures put { OnOk result (AreListed F.does self.old.folder self.new.folder) }
+    {
+        match signs.requests(rt) {
+            Ok(Some(requests)) => keep_requests(self.alloc, &mut self.folder, Some(&requests)),
+            _ => keep_requests(self.alloc, &mut self.folder, None),
+        }
+    }
+
     /// Replaces the file of a vnode that serves. Answers how many keys it had.
     fn write_vnode<B: Room, R: Wait>(
         &mut self,

@@ -16,6 +16,7 @@ use commands::server::{Ended, Says as _, Unserved};
 use dvv::VNODES_PER_NUMBER;
 use kept_folder::{HOOKS, Held, Opened};
 use server_accept::{Bound, Lobby, Setup, open};
+use std::alloc::Global;
 use std::io::Stderr;
 use std::net::{Net, SocketAddr, TcpListener, TcpStream};
 use std::sync::{Mutex, Wait};
@@ -423,29 +424,6 @@ fn round_over<R: Threads + Wait + Sync + Net<Listener = TcpListener, Stream = Tc
     Ok(snapshot)
 }
 
-/// Whether what one start writes the next one reads, in a folder of their own.
-fn is_read_again(rt: &HostRuntime, rounds: [Round; 2]) -> Result<(), Fail> {
-    let [written, read] = rounds;
-    let kept = Mutex::new(Pages::new(rt.alloc()));
-    let folder = Shared {
-        rt,
-        alloc: rt.alloc(),
-        pages: &kept,
-    };
-    round_over(folder, &hall_of(rt)?, written)?;
-    round_over(folder, &hall_of(rt)?, read)?;
-    Ok(())
-}
-
-/// A store has any number of vnodes, and at its next start as many as it had.
-#[test]
-fn any_number_of_vnodes(rt: HostRuntime) -> Result<(), Fail> {
-    for rounds in SPREADS {
-        is_read_again(&rt, rounds)?;
-    }
-    Ok(())
-}
-
 /// A store is kept in a folder: a hook is bound and keys are written, snapshots are made by themselves, and the store is stopped. Whoever
 /// begins from the last snapshot has the first key, and from the stop both; the hook judges in either.
 #[test]
@@ -467,5 +445,35 @@ fn what_was_acknowledged(rt: HostRuntime) -> Result<(), Fail> {
     };
     round_over(copy, &hall_of(lent)?, snapped)?;
     round_over(folder, &hall_of(lent)?, stopped)?;
+    Ok(())
+}
+
+/// Whether what one start writes the next one reads, in a folder of their own.
+fn is_read_again<R: Threads + Wait + Sync + Net<Listener = TcpListener, Stream = TcpStream>>(
+    rt: &R,
+    alloc: Global,
+    halls: &[Hall; 2],
+    rounds: [Round; 2],
+) -> Result<(), Fail> {
+    let [first, second] = halls;
+    let [written, read] = rounds;
+    let kept = Mutex::new(Pages::new(alloc));
+    let folder = Shared {
+        rt,
+        alloc,
+        pages: &kept,
+    };
+    round_over(folder, first, written)?;
+    round_over(folder, second, read)?;
+    Ok(())
+}
+
+/// A store has any number of vnodes, and at its next start as many as it had.
+#[test]
+fn any_number_of_vnodes(rt: HostRuntime) -> Result<(), Fail> {
+    for rounds in SPREADS {
+        let halls = [hall_of(&rt)?, hall_of(&rt)?];
+        is_read_again(&rt, rt.alloc(), &halls, rounds)?;
+    }
     Ok(())
 }
