@@ -17,6 +17,7 @@ use Rattle.std.specs.contracts.alloc.Global as Heap
 use Rattle.std.specs.contracts.impls.GlobalAllocator.TheImpl.{ghosts}
 use Rattle.std.proofs.alloc.Global.TheSendSync as heap
 use Rattle.cluster.proofs.Sent.{cluster_sync}
+use Rattle.cluster_peers.specs.contracts.calling.ClusterPeers as ClusterPeers
 use Rattle.cluster_peers.specs.contracts.calling.ClusterPeers.TheInside as Inside
 use Rattle.cluster_vnode.specs.contracts.pass.Pass as Pass
 use Rattle.kept_restore.proofs.Sent.{pass_send}
@@ -63,8 +64,11 @@ inside_send : (l : _) (B R : RattleType) (g : room.Ghosts B.Denot) → IsSend B 
 inside_send l B R g s y r =
     declared_send (Inside.the_type l B R g) (heap.the_send, (shr_send _ _ _ r, (shr_send _ _ _ (cluster_sync B g s y), (pass_send B g s, (search sendable depth 20, tt)))))
 
+peers_send : (l : _) (B R : RattleType) (g : room.Ghosts B.Denot) → IsSend (Inside.the_row l B R g) → IsSend (ClusterPeers.the_row l B R g)
+peers_send l B R g s = search (s, sendable) depth 20
+
 pub side_send : (l : _) (B R : RattleType) (g : room.Ghosts B.Denot) → IsSend B → IsSync B → IsSync R → IsSend (Side.the_row l B R g)
-side_send l B R g s y r = search (inside_send, sendable, crosses) depth 40
+side_send l B R g s y r = declared_send (Side.the_type l B R g) (peers_send l B R g (inside_send l B R g s y r), (search (sendable, crosses) depth 20, tt))
 
 pub shelf_sync : (F : RattleType) → IsSync F → IsSync (Shelf.the_row F)
 shelf_sync F s = search (shelf.the_sync, s, sendable, crosses) depth 40

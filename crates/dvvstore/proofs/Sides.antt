@@ -1,12 +1,57 @@
 -- What snapshots of several vnodes come to, each by a pass of its own.
 use Rattle.std.proofs.Common.{◌≡◌, ◌∙◌, ◌+◌, ◌-◌, ◌^◌, ◌<◌, ◌++◌, ◌∷◌, ℕ, zero, suc, List, [], Result, Ok, Err, IfOk, ap, arith, drop, length, map, min, refl, subst, sym, take}
 use Rattle.std.specs.Prelude.{get_or, slice_index_or, sum}
-use Rattle.std.proofs.lemmas.List.{map-append}
+use Rattle.std.proofs.lemmas.List.{append-nil, map-append}
+use Rattle.std.proofs.lemmas.List.Sums.{sum_by-append}
 use Rattle.cluster_peers.specs.Peering.{Reach}
 use Rattle.cluster_stamps.specs.declared.view.Size.{Size}
 use Rattle.cluster_stamps.specs.declared.view.View.{View}
 use Rattle.kept_folder.specs.Steps.{Step}
-use Rattle.dvvstore.specs.Asides.{AllRead, AreKeptBy, IsKeptBy, Reads}
+use Rattle.dvvstore.specs.Asides.{AllRead, AreAllKept, AreKeptBy, IsKeptBy, Reads}
+
+-- ---- how many keys there are
+
+-- one more of a list
+take_suc : {X : Type 0} (xs : List X) (k : ℕ) (x : X) → k < length xs → x ≡ get_or xs k x → take (suc k) xs ≡ take k xs ++ x ∷ []
+take_suc [] k x lt is = absurd (omega (arith, lt))
+take_suc (y ∷ ys) zero x lt is = ap (λ (z : _). z ∷ []) (sym is)
+take_suc (y ∷ ys) (suc k) x lt is = ap (λ (zs : List _). y ∷ zs) (take_suc ys k x (omega (arith, lt)) is)
+
+pub take_more : {X : Type 0} (xs : List X) (k : ℕ) (x : X) → k < length xs → x ≡ get_or xs k x → take (k + 1) xs ≡ take k xs ++ x ∷ []
+take_more xs k x lt is = ap (λ (n : ℕ). take n xs) (let e : k + 1 ≡ suc k = omega arith in e) ∙ take_suc xs k x lt is
+
+-- ---- a list that was lent and came back
+
+drop_all : {X : Type 0} (xs : List X) → drop (length xs) xs ≡ []
+drop_all [] = refl
+drop_all (x ∷ xs) = drop_all xs
+
+take_all : {X : Type 0} (xs : List X) → take (length xs) xs ≡ xs
+take_all [] = refl
+take_all (x ∷ xs) = ap (λ (ys : List _). x ∷ ys) (take_all xs)
+
+-- what stands in a vector whose elements were lent all, by what came back
+pub came_back : {X : Type 0} (len : ℕ) (news olds : List X) → length news ≡ length olds → len ≡ length olds → take len (news ++ drop (length news) olds) ≡ news
+came_back len news olds even many =
+    ap (λ (rest : List _). take len (news ++ rest)) (ap (λ (n : ℕ). drop n olds) even ∙ drop_all olds)
+    ∙ (ap (take len) (append-nil news) ∙ (ap (λ (n : ℕ). take n news) (many ∙ sym even) ∙ take_all news))
+
+-- what was counted so far
+abbrev pub HasCounted : {S E : Type 0} → (S → Result ℕ E) → List S → ℕ → Type 0
+HasCounted came sides keys = (counts : List ℕ) × (map came sides ≡ map Ok counts) × (keys ≡ min (sum counts) (2 ^ 64 - 1))
+
+sum_end : (counts : List ℕ) (count : ℕ) → sum (counts ++ count ∷ []) ≡ sum counts + count
+sum_end counts count = sum_by-append (λ n. n) counts (count ∷ []) ∙ ap (λ (n : ℕ). sum counts + n) (let e : 0 + count ≡ count = omega arith in e)
+
+pub counted_more : {S E : Type 0} (came : S → Result ℕ E) (before after : List S) (side : S) (count keys more : ℕ) → after ≡ before ++ side ∷ [] → came side ≡ Ok count → more ≡ min (keys + count) (2 ^ 64 - 1)
+    → HasCounted came before keys → HasCounted came after more
+counted_more came before after side count keys more is one sums (counts, whole, all) = (
+  counts ++ count ∷ [],
+  ap (map came) is ∙ (map-append came before (side ∷ []) ∙ (ap (λ (cs : List (Result ℕ _)). cs ++ came side ∷ []) whole ∙ (ap (λ (c : Result ℕ _). map Ok counts ++ c ∷ []) one ∙ sym (map-append Ok counts (count ∷ []))))),
+  (let e = sum_end counts count in omega (arith, e, sums, all)),
+)
+
+-- ---- sides
 
 -- the vnodes, by a pass that has called nobody
 abbrev pub reach : Size → View → Reach
@@ -29,6 +74,9 @@ module _ {S : Type 0} (peers : S → Reach) (size : Size) where
   read_at : (spare new : View) (k n : ℕ) → k ≡ n → Reads k spare new → Reads n spare new
   read_at spare new k n is reads = subst (λ (m : ℕ). Reads m spare new) is reads
 
+  all_at : (k n : ℕ) (spares news : List View) → k ≡ n → AllRead k spares news → AllRead n spares news
+  all_at k n spares news is all = subst (λ (m : ℕ). AllRead m spares news) is all
+
   pub all_read : (index : ℕ) (spares : List View) (olds news : List S) → AreOf olds spares → length news ≡ length olds
       → ((i : ℕ) (d : S) → i < length olds → Reads ((peers (slice_index_or olds i d)).size.first + (index + i)) (peers (slice_index_or olds i d)).pass (peers (slice_index_or news i d)).pass)
       → AllRead (size.first + index) spares (map (λ (s : S). (peers s).pass) news)
@@ -39,21 +87,26 @@ module _ {S : Type 0} (peers : S → Reach) (size : Size) where
   all_read index (spare ∷ spares) (old ∷ olds) [] are even each = absurd (omega (arith, even))
   all_read index (spare ∷ spares) (old ∷ olds) (new ∷ news) are even each = (
     reads_as old spare (peers new).pass (index + 0) index (first_is old olds spare spares are) (omega arith) (each 0 old (omega arith)),
-    all_read_on index spares olds news (others_are old olds spare spares are) (omega (arith, even)) (λ i d below. each (suc i) d (omega (arith, below))),
+    all_at (size.first + (index + 1)) ((size.first + index) + 1) spares (map (λ (s : S). (peers s).pass) news) (omega arith)
+        (all_read (index + 1) spares olds news (others_are old olds spare spares are) (omega (arith, even)) (λ i d below.
+        read_at (peers (slice_index_or olds i d)).pass (peers (slice_index_or news i d)).pass ((peers (slice_index_or olds i d)).size.first + (index + suc i)) ((peers (slice_index_or olds i d)).size.first + ((index + 1) + i)) (omega arith)
+        (each (suc i) d (omega (arith, below))))),
   )
-    where
-      all_read_on : (k : ℕ) (rest : List View) (before after : List S) → AreOf before rest → length after ≡ length before
-          → ((i : ℕ) (d : S) → i < length before → Reads ((peers (slice_index_or before i d)).size.first + (k + suc i)) (peers (slice_index_or before i d)).pass (peers (slice_index_or after i d)).pass)
-          → AllRead ((size.first + k) + 1) rest (map (λ (s : S). (peers s).pass) after)
-      all_read_on k rest before after is many those =
-          subst (λ (n : ℕ). AllRead n rest (map (λ (s : S). (peers s).pass) after)) (let e : size.first + (k + 1) ≡ (size.first + k) + 1 = omega arith in e)
-          (all_read (k + 1) rest before after is many (λ i d below. read_more before after i d k (those i d below)))
 
-      read_more : (before after : List S) (i : ℕ) (d : S) (k : ℕ) → Reads ((peers (slice_index_or before i d)).size.first + (k + suc i)) (peers (slice_index_or before i d)).pass (peers (slice_index_or after i d)).pass
-          → Reads ((peers (slice_index_or before i d)).size.first + ((k + 1) + i)) (peers (slice_index_or before i d)).pass (peers (slice_index_or after i d)).pass
-      read_more before after i d k reads =
-          let first = (peers (slice_index_or before i d)).size.first in
-          read_at (peers (slice_index_or before i d)).pass (peers (slice_index_or after i d)).pass (first + (k + suc i)) (first + ((k + 1) + i)) (omega arith) reads
+  -- all from the first on
+  pub all_read_first : (spares : List View) (olds news : List S) → AreOf olds spares → length news ≡ length olds
+      → ((i : ℕ) (d : S) → i < length olds → Reads ((peers (slice_index_or olds i d)).size.first + i) (peers (slice_index_or olds i d)).pass (peers (slice_index_or news i d)).pass)
+      → AllRead size.first spares (map (λ (s : S). (peers s).pass) news)
+  all_read_first spares olds news are even each =
+      all_at (size.first + 0) size.first spares (map (λ (s : S). (peers s).pass) news) (omega arith)
+      (all_read 0 spares olds news are even (λ i d below.
+      read_at (peers (slice_index_or olds i d)).pass (peers (slice_index_or news i d)).pass ((peers (slice_index_or olds i d)).size.first + i) ((peers (slice_index_or olds i d)).size.first + (0 + i)) (omega arith) (each i d below)))
+
+  -- said of what was handed to a thread, and of what it left
+  pub read_there : (old new before after : S) (index : ℕ) → before ≡ old → after ≡ new → Reads ((peers before).size.first + index) (peers before).pass (peers after).pass → Reads ((peers old).size.first + index) (peers old).pass (peers new).pass
+  read_there old new before after index is left reads =
+      subst (λ (s : S). Reads ((peers old).size.first + index) (peers old).pass (peers s).pass) left
+      (subst (λ (s : S). Reads ((peers s).size.first + index) (peers s).pass (peers after).pass) is reads)
 
   module _ {F E : Type 0} (came : S → Result ℕ E) (does : F → Step → F → Type 0) (folder : F) (first : ℕ) where
     -- said of the same vnode and the same pass
@@ -75,6 +128,12 @@ module _ {S : Type 0} (peers : S → Reach) (size : Size) where
     counts_are : (new : S) (news : List S) (count : ℕ) (counts : List ℕ) → map came (new ∷ news) ≡ map Ok (count ∷ counts) → map came news ≡ map Ok counts
     counts_are new news count counts is = ap (λ (cs : List (Result ℕ E)). drop 1 cs) is
 
+    kept_more : (before after : List S) (i : ℕ) (d : S) (k n : ℕ) → k ≡ n
+        → IfOk (came (slice_index_or after i d)) (IsKeptBy does folder (first + k) k (peers (slice_index_or before i d)).pass (peers (slice_index_or after i d)).pass)
+        → IfOk (came (slice_index_or after i d)) (IsKeptBy does folder (first + n) n (peers (slice_index_or before i d)).pass (peers (slice_index_or after i d)).pass)
+    kept_more before after i d k n is kept =
+        subst (λ (m : ℕ). IfOk (came (slice_index_or after i d)) (IsKeptBy does folder (first + m) m (peers (slice_index_or before i d)).pass (peers (slice_index_or after i d)).pass)) is kept
+
     pub all_kept : (index : ℕ) (spares : List View) (olds news : List S) (counts : List ℕ) → AreOf olds spares → length news ≡ length olds → map came news ≡ map Ok counts
         → ((i : ℕ) (d : S) → i < length olds
         → IfOk (came (slice_index_or news i d)) (IsKeptBy does folder (first + (index + i)) (index + i) (peers (slice_index_or olds i d)).pass (peers (slice_index_or news i d)).pass))
@@ -90,43 +149,21 @@ module _ {S : Type 0} (peers : S → Reach) (size : Size) where
       kept_as old spare (peers new).pass (index + 0) index count (first_is old olds spare spares are) (omega arith)
           (counted new count (IsKeptBy does folder (first + (index + 0)) (index + 0) (peers old).pass (peers new).pass) (count_is new news count counts whole) (each 0 old (omega arith))),
       all_kept (index + 1) spares olds news counts (others_are old olds spare spares are) (omega (arith, even)) (counts_are new news count counts whole)
-          (λ i d below. kept_more olds news i d index (each (suc i) d (omega (arith, below)))),
+          (λ i d below. kept_more olds news i d (index + suc i) ((index + 1) + i) (omega arith) (each (suc i) d (omega (arith, below)))),
     )
-      where
-        kept_more : (before after : List S) (i : ℕ) (d : S) (k : ℕ)
-            → IfOk (came (slice_index_or after i d)) (IsKeptBy does folder (first + (k + suc i)) (k + suc i) (peers (slice_index_or before i d)).pass (peers (slice_index_or after i d)).pass)
-            → IfOk (came (slice_index_or after i d)) (IsKeptBy does folder (first + ((k + 1) + i)) ((k + 1) + i) (peers (slice_index_or before i d)).pass (peers (slice_index_or after i d)).pass)
-        kept_more before after i d k kept =
-            subst (λ (m : ℕ). IfOk (came (slice_index_or after i d)) (IsKeptBy does folder (first + m) m (peers (slice_index_or before i d)).pass (peers (slice_index_or after i d)).pass))
-            (let e : k + suc i ≡ (k + 1) + i = omega arith in e) kept
 
--- ---- how many keys there are
+    -- all from the first on
+    pub all_kept_first : (spares : List View) (olds news : List S) (keys : ℕ) → AreOf olds spares → length news ≡ length olds → HasCounted came news keys
+        → ((i : ℕ) (d : S) → i < length olds → IfOk (came (slice_index_or news i d)) (IsKeptBy does folder (first + i) i (peers (slice_index_or olds i d)).pass (peers (slice_index_or news i d)).pass))
+        → AreAllKept does folder first spares (map (λ (s : S). (peers s).pass) news) keys
+    all_kept_first spares olds news keys are even (counts, whole, all) each = (
+      counts,
+      all_kept 0 spares olds news counts are even whole (λ i d below. kept_more olds news i d i (0 + i) (omega arith) (each i d below)),
+      all,
+    )
 
--- one more of a list
-pub take_more : {X : Type 0} (xs : List X) (k : ℕ) (x : X) → k < length xs → x ≡ get_or xs k x → take (k + 1) xs ≡ take k xs ++ x ∷ []
-take_more [] k x lt is = absurd (omega (arith, lt))
-take_more (y ∷ ys) zero x lt is = ap (λ (z : _). z ∷ []) (sym is)
-take_more (y ∷ ys) (suc k) x lt is = ap (λ (zs : List _). y ∷ zs) (take_more ys k x (omega (arith, lt)) is)
-
--- what was counted so far
-abbrev pub HasCounted : {S E : Type 0} → (S → Result ℕ E) → List S → ℕ → Type 0
-HasCounted came sides keys = (counts : List ℕ) × (map came sides ≡ map Ok counts) × (keys ≡ min (sum counts) (2 ^ 64 - 1))
-
-sum_end : (counts : List ℕ) (count : ℕ) → sum (counts ++ count ∷ []) ≡ sum counts + count
-sum_end [] count = omega arith
-sum_end (n ∷ counts) count = let e = sum_end counts count in omega (arith, e)
-
-pub counted_more : {S E : Type 0} (came : S → Result ℕ E) (before after : List S) (side : S) (count keys more : ℕ) → after ≡ before ++ side ∷ [] → came side ≡ Ok count → more ≡ min (keys + count) (2 ^ 64 - 1)
-    → HasCounted came before keys → HasCounted came after more
-counted_more came before after side count keys more is one sums (counts, whole, all) = (
-  counts ++ count ∷ [],
-  ap (map came) is ∙ (map-append came before (side ∷ []) ∙ (ap (λ (cs : List (Result ℕ _)). cs ++ came side ∷ []) whole ∙ (ap (λ (c : Result ℕ _). map Ok counts ++ c ∷ []) one ∙ sym (map-append Ok counts (count ∷ []))))),
-  (let e = sum_end counts count in omega (arith, e, sums, all)),
-)
-
-pub counted_all : {S E : Type 0} (came : S → Result ℕ E) (sides : List S) (k keys : ℕ) → k ≡ length sides → HasCounted came (take k sides) keys → HasCounted came sides keys
-counted_all came sides k keys is has = subst (λ (ss : List _). HasCounted came ss keys) (ap (λ (n : ℕ). take n sides) is ∙ take_whole sides) has
-  where
-    take_whole : {X : Type 0} (xs : List X) → take (length xs) xs ≡ xs
-    take_whole [] = refl
-    take_whole (x ∷ xs) = ap (λ (ys : List _). x ∷ ys) (take_whole xs)
+    pub kept_there : (old new before after : S) (index : ℕ) → before ≡ old → after ≡ new → IfOk (came after) (IsKeptBy does folder (first + index) index (peers before).pass (peers after).pass)
+        → IfOk (came new) (IsKeptBy does folder (first + index) index (peers old).pass (peers new).pass)
+    kept_there old new before after index is left kept =
+        subst (λ (s : S). IfOk (came s) (IsKeptBy does folder (first + index) index (peers old).pass (peers s).pass)) left
+        (subst (λ (s : S). IfOk (came after) (IsKeptBy does folder (first + index) index (peers s).pass (peers after).pass)) is kept)

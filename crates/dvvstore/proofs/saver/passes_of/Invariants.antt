@@ -7,5 +7,5 @@ invariant-loop-side g l = record {
   can : (goal.iterator-loop-side g).can_next l.side-iterator × (goal.iterator-loop-side g).is_finite l.side-iterator;
   each : l.passes.items ≡ map (λ s. s.peers.pass) l.yielded;
   count : vec_len l.passes ≡ length l.yielded;
-  room : vec_len l.initial.sides ≤ vec_capacity l.passes;
+  room : vec_len l.fn.sides ≤ vec_capacity l.passes;
 }

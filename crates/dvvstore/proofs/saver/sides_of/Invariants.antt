@@ -8,5 +8,5 @@ invariant-loop-pass g l = record {
   can : (goal.iterator-loop-pass g).can_next l.pass-iterator × (goal.iterator-loop-pass g).is_finite l.pass-iterator;
   each : map (λ s. s.peers) l.sides.items ≡ map (reach l.cluster) l.yielded;
   count : vec_len l.sides ≡ length l.yielded;
-  room : vec_len l.initial.passes ≤ vec_capacity l.sides;
+  room : vec_len l.fn.passes ≤ vec_capacity l.sides;
 }
