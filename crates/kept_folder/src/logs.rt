@@ -87,7 +87,8 @@ fn span_of(alloc: Global, names: &[String]) -> Result<Option<Span>, AllocError>
 {
     let mut span = None;
     for name in names {
-        span = with_log(span, log_number(alloc, name.as_str())?);
+        let found = log_number(alloc, name.as_str())?;
+        span = with_log(span, found);
     }
     Ok(span)
 }

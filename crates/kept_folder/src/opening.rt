@@ -383,8 +383,9 @@ fn vnodes_in<F: Folder + Sync, R: Threads + Sync>(
     )?;
     let mut files = Vec::with_capacity(alloc, MAX_VNODES)?;
     add(&mut files, first)?;
-    for found in others {
-        add(&mut files, found?)?;
+    for answer in others {
+        let found = answer?;
+        add(&mut files, found)?;
     }
     Ok(files)
 }
