@@ -87,18 +87,6 @@ const TALK: [Line; 9] = [
     ),
 ];
 
-/// So many values of one key are written, none by who had seen another, and each has so many bytes 0: together more than the system
-/// takes of an answer at once.
-const LARGE: usize = 64;
-
-const LARGE_BYTES: usize = 65_536;
-
-const PUT_LARGE: &[u8] =
-    b"PUT /buckets/e/keys/k HTTP/1.1\r\nHost: h\r\nContent-Length: 65536\r\n\r\n";
-
-const GET_LARGE: &[u8] =
-    b"GET /buckets/e/keys/k HTTP/1.1\r\nHost: h\r\nAccept: multipart/mixed\r\nConnection: close\r\n\r\n";
-
 /// So many seconds an answer is waited for.
 const PATIENCE: u64 = 10;
 
@@ -141,36 +129,6 @@ fn talk(clients: &mut [TcpStream]) -> io::Result<usize> {
     Ok(TALK.len())
 }
 
-/// Asks for the large values to be written, and for all of them.
-fn ask_large(alloc: Global, client: &mut TcpStream) -> io::Result<()> {
-    let value = vec![in alloc; 0u8; LARGE_BYTES]?;
-    for _ in 0..LARGE {
-        client.write_all(PUT_LARGE)?;
-        client.write_all(&value)?;
-    }
-    client.write_all(GET_LARGE)
-}
-
-/// How many bytes 0 a client is told up to the end: no head has one.
-fn zeros_told(client: &mut TcpStream) -> io::Result<usize> {
-    let mut piece = [0u8; 4_096];
-    let mut zeros = 0usize;
-    for _ in 0..u64::MAX {
-        let n = client.read(&mut piece)?;
-        if n == 0 {
-            return Ok(zeros);
-        }
-        zeros = zeros.saturating_add(piece[..n].iter().filter(|byte| **byte == 0).count());
-    }
-    Ok(zeros)
-}
-
-/// Whether a client is told all of an answer that the system takes in pieces.
-fn is_told_all(alloc: Global, client: &mut TcpStream) -> io::Result<bool> {
-    ask_large(alloc, client)?;
-    Ok(zeros_told(client)? == LARGE * LARGE_BYTES)
-}
-
 /// How many lines of the talk clients are told as they should be that connect there, and, where they leave only once the server hung up,
 /// how many of them see that it did. The server is told to stop where it doesn't count connections.
 fn visit<R: Net<Listener = StdListener, Stream = TcpStream>>(
@@ -182,12 +140,6 @@ fn visit<R: Net<Listener = StdListener, Stream = TcpStream>>(
 ) -> io::Result<(usize, usize)> {
     let mut clients = clients_of(alloc, rt, addr)?;
     let lines = talk(&mut clients)?;
-    let Some(client) = clients.first_mut() else {
-        return Ok((lines, 0));
-    };
-    if !is_told_all(alloc, client)? {
-        return Ok((lines, 0));
-    }
     if counts {
         return Ok((lines, CLIENTS));
     }
