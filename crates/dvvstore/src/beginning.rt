@@ -1,6 +1,6 @@
 //! How the vnodes of a store take over what a folder held, while that is followed.
 
-ghost use Rattle.std.specs.Prelude.{◌≡◌, ◌≤◌, OnOk, length, map};
+ghost use Rattle.std.specs.Prelude.{◌≡◌, ◌≤◌, IfOk, map, vec_len};
 ghost use Rattle.kept_restore.specs.Beginnings.{HaveLoaded};
 
 use crate::crew::Lookout;
@@ -54,13 +54,14 @@ impl<R: Wait> Throttle for Load<'_, R> {
 pub fn begin<B: Room + Spot + Send + Sync, R: Threads + Wait + Sync>(
     host: &Host<'_, R>,
     cluster: &Cluster<B>,
-    loaders: &mut [Loader<B>],
+    loaders: Vec<Loader<B>>,
     files: &[KeptFile],
     lookout: &mut Lookout<B>,
-) -> Result<(), Unloaded>
-    requires vnodes { length loaders.old ≤ cluster.now.vnodes }
+) -> Result<Vec<Loader<B>>, Unloaded>
+    requires vnodes { vec_len loaders ≤ cluster.now.vnodes }
     requires spot { cluster.now.first ≡ B.first }
-    ensures loaded { OnOk result (HaveLoaded cluster.now.first 0 files.now (map (λ l. l.pass) loaders.old) (map (λ l. l.pass) loaders.new)) }
+    ensures loaded { IfOk result (λ back. HaveLoaded cluster.now.first 0 files.now (map (λ l. l.pass) loaders.items) (map (λ l. l.pass) back.items)) }
+    ensures count { IfOk result (λ back. vec_len back ≡ vec_len loaders) }
 {
     let load = Load::new(host.rt);
     let both = &load;
@@ -76,16 +77,30 @@ pub fn begin<B: Room + Spot + Send + Sync, R: Threads + Wait + Sync>(
         || -> ()
             requires { cluster.now.first ≡ B.first }
         { follow_load(cluster, lookout, both) },
-        || -> Result<(), Unloaded>
-            requires { length loaders.now ≤ loading.cluster.now.vnodes }
-            ensures { OnOk result (HaveLoaded loading.entry.cluster.now.first 0 files.entry.now (map (λ l. l.pass) loaders.entry.now) (map (λ l. l.pass) loaders.exit.now)) }
+        || -> Result<Vec<Loader<B>>, Unloaded>
+            requires { vec_len loaders ≤ loading.cluster.now.vnodes }
+            ensures { IfOk result (λ back. HaveLoaded loading.entry.cluster.now.first 0 files.entry.now (map (λ l. l.pass) loaders.items) (map (λ l. l.pass) back.items) × (vec_len back ≡ vec_len loaders)) }
         {
-            let loaded = loading.load_all(loaders, files);
+            let loaded = take_over(&loading, loaders, files);
             both.is_over.store(true, SeqCst);
             loaded
         },
     );
     loaded
+}
+
+/// Has vnodes take over their records.
+fn take_over<B: Room + Send + Sync, R: Threads + Wait + Sync, T: Throttle + Sync>(
+    loading: &Loading<'_, B, R, T>,
+    mut loaders: Vec<Loader<B>>,
+    files: &[KeptFile],
+) -> Result<Vec<Loader<B>>, Unloaded>
+    requires vnodes { vec_len loaders ≤ loading.now.cluster.now.vnodes }
+    ensures loaded { IfOk result (λ back. HaveLoaded loading.now.cluster.now.first 0 files.now (map (λ l. l.pass) loaders.items) (map (λ l. l.pass) back.items)) }
+    ensures count { IfOk result (λ back. vec_len back ≡ vec_len loaders) }
+{
+    loading.load_all(&mut loaders, files)?;
+    Ok(loaders)
 }
 
 /// Follows what vnodes take over, until all of them have.

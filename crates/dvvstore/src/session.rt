@@ -229,7 +229,7 @@ fn begin<B: Room + Spot + Send + Sync, R: Threads + Wait + Sync, N, F: Copy>(
         passes: passes_for(workers, spread),
     };
     let (cluster, mut passes) = Cluster::<B>::open(alloc, seed, stamps, card, &size)?;
-    let mut loaders = loaders_of(alloc, &mut passes, vnodes)?;
+    let loaders = loaders_of(alloc, &mut passes, vnodes)?;
     let fronts = stay.fronts(alloc, vnodes)?;
     let start = Start {
         seed,
@@ -240,7 +240,7 @@ fn begin<B: Room + Spot + Send + Sync, R: Threads + Wait + Sync, N, F: Copy>(
         requests: Requests::none(alloc),
         err: stay.err,
     };
-    beginning::begin(host, &cluster, &mut loaders, &stay.held.files, &mut lookout)?;
+    let loaders = beginning::begin(host, &cluster, loaders, &stay.held.files, &mut lookout)?;
     let begun = Begun {
         spares: passes_of(alloc, loaders)?,
         fronts,
