@@ -1,4 +1,4 @@
-use Rattle.std.proofs.Common.{◌≡◌, ◌+◌, vec_len}
+use Rattle.std.proofs.Common.{◌≡◌, ◌+◌, [], vec_len}
 use Rattle.std.specs.List.{All}
 use Rattle.cluster_stamps.specs.declared.view.View.{View}
 use Rattle.cluster_vnode.specs.Calls.{pass_view}
