@@ -1,5 +1,5 @@
 -- What all passes of a crew were told.
-use Rattle.std.proofs.Common.{◌≡◌, ◌++◌, ◌∷◌, [], ℕ, List, ap, refl, subst, sym, ◌∙◌, append_assoc, flat_map}
+use Rattle.std.proofs.Common.{◌≡◌, ◌++◌, ◌∷◌, ◌+◌, ◌<◌, [], ℕ, zero, suc, List, ap, arith, length, refl, subst, sym, ◌∙◌, append_assoc, flat_map}
 use Rattle.std.specs.List.{All}
 use Rattle.std.proofs.lemmas.Grind.{flat_map-append}
 use Rattle.audit_cluster.specs.Following.{IsOfWatch}
@@ -7,72 +7,72 @@ use Rattle.cluster_stamps.specs.declared.view.Told.{Told}
 use Rattle.cluster_stamps.specs.declared.view.View.{View}
 use Rattle.journal.specs.Logs.{Log}
 use Rattle.cluster_vnode.specs.Gathers.{IsGathered}
-use Rattle.dvvstore.specs.Asides.{AllRead, AreGathered, AreSpared, WithAsides, passes_of}
-use Rattle.kept_restore.specs.declared.beginning.Passes.{Passes}
+use Rattle.kept_file.specs.Files.{records_at}
+use Rattle.kept_file.specs.declared.file.KeptFile.{KeptFile}
+use Rattle.kept_restore.specs.Beginnings.{BeginsWith, HaveLoaded}
+use Rattle.kept_restore.specs.Loads.{HasLoaded}
+use Rattle.record_codec.specs.declared.record.Record.{Record}
+use Rattle.dvvstore.specs.Asides.{AllRead, AreGathered, AreSpared, WithAsides}
 
 -- what passes were told
 abbrev all_told : List View → List Told
 all_told passes = flat_map (λ p. p.told) passes
 
 -- what all passes were told is what some were told, and more
-pub told_before : {B : Type 0} → (passes all : List View) (new : Passes B) (rest : List Told) → all ≡ passes ++ passes_of new
-    → all_told all ++ rest ≡ all_told passes ++ (all_told (passes_of new) ++ rest)
+pub told_before : (passes all new : List View) (rest : List Told) → all ≡ passes ++ new → all_told all ++ rest ≡ all_told passes ++ (all_told new ++ rest)
 told_before passes all new rest is =
-    ap (λ (ts : List Told). ts ++ rest) (ap all_told is ∙ flat_map-append (λ p. p.told) passes (passes_of new)) ∙ append_assoc (all_told passes) (all_told (passes_of new)) rest
+    ap (λ (ts : List Told). ts ++ rest) (ap all_told is ∙ flat_map-append (λ p. p.told) passes new) ∙ append_assoc (all_told passes) (all_told new) rest
 
 -- what spare passes were told, which only read
-spared : {B : Type 0} → (first : ℕ) (old new : Passes B) → AllRead first old new → AreSpared first old (all_told (passes_of new))
-spared first old new ((one, is_one, reads_one), (two, is_two, reads_two), (three, is_three, reads_three)) = (
-  one,
-  two,
-  three,
-  reads_one,
-  reads_two,
-  reads_three,
-  ap (λ (ts : List Told). ts ++ (new.second.told ++ (new.third.told ++ []))) is_one
-      ∙ (ap (λ (ts : List Told). (old.first.told ++ one) ++ (ts ++ (new.third.told ++ []))) is_two
-      ∙ ap (λ (ts : List Told). (old.first.told ++ one) ++ ((old.second.told ++ two) ++ (ts ++ []))) is_three),
-)
+spared : (first : ℕ) (old new : List View) → AllRead first old new → AreSpared first old (all_told new)
+spared first [] [] all = refl
+spared first [] (new ∷ rest) all = absurd all
+spared first (old ∷ others) [] all = absurd all
+spared first (old ∷ others) (new ∷ rest) ((more, is, reads), all) =
+    (more, all_told rest, reads, ap (λ (ts : List Told). ts ++ all_told rest) is, spared (first + 1) others rest all)
 
 -- what is said of all that passes and a watch were told
-pub with_asides : {B : Type 0} → (first : ℕ) (old new : Passes B) (Says : List Told → Type 0) (passes all : List View) (watched : List Told) → all ≡ passes ++ passes_of new → AllRead first old new
+pub with_asides : (first : ℕ) (old new : List View) (Says : List Told → Type 0) (passes all : List View) (watched : List Told) → all ≡ passes ++ new → AllRead first old new
     → All IsOfWatch watched → Says (all_told all ++ watched) → WithAsides first old Says (all_told passes)
 with_asides first old new Says passes all watched is reads its says =
-    (all_told (passes_of new), watched, spared first old new reads, its, subst Says (told_before passes all new watched is) says)
+    (all_told new, watched, spared first old new reads, its, subst Says (told_before passes all new watched is) says)
 
--- ---- what one of the spare passes had been told
+-- ---- what the spare passes had been told
 
-first_of : (front a more rest : List Told) → front ++ ((a ++ more) ++ rest) ≡ front ++ a ++ (more ++ rest)
-first_of front a more rest = ap (λ (ts : List Told). front ++ ts) (append_assoc a more rest) ∙ sym (append_assoc front a (more ++ rest))
+-- the law of loads, as `kept_restore` has it
+abbrev pub LoadsStand : Type 0
+LoadsStand = (before after : List Told) (old new : View) (logs : List Log) (id : ℕ) (records : List Record) → IsGathered (before ++ new.told ++ after) logs → HasLoaded old new id records → BeginsWith logs id records
 
--- so it is of journals in which all this is gathered
-abbrev HasOf : List Told → List Log → Type 0
-HasOf own logs = (before after : List Told) × IsGathered (before ++ own ++ after) logs
+parts : (front a more rest watched : List Told) → front ++ (((a ++ more) ++ rest) ++ watched) ≡ front ++ a ++ (more ++ (rest ++ watched))
+parts front a more rest watched =
+    ap (λ (ts : List Told). front ++ ts) (append_assoc (a ++ more) rest watched ∙ append_assoc a more (rest ++ watched)) ∙ sym (append_assoc front a (more ++ (rest ++ watched)))
 
-one_of : (front a more rest all : List Told) (logs : List Log) → all ≡ front ++ ((a ++ more) ++ rest) → IsGathered all logs → HasOf a logs
-one_of front a more rest all logs is gathered = (front, more ++ rest, subst (λ (ts : List Told). IsGathered ts logs) (is ∙ first_of front a more rest) gathered)
+behind : (front a rest watched : List Told) → front ++ ((a ++ rest) ++ watched) ≡ (front ++ a) ++ (rest ++ watched)
+behind front a rest watched = ap (λ (ts : List Told). front ++ ts) (append_assoc a rest watched) ∙ sym (append_assoc front a (rest ++ watched))
 
--- each of the three stands among all that was gathered
-pub each_among : {B : Type 0} → (first : ℕ) (told : List Told) (spares : Passes B) (logs : List Log) → AreGathered first told spares logs
-    → HasOf spares.first.told logs × HasOf spares.second.told logs × HasOf spares.third.told logs
-each_among first told spares logs (spare, watched, (one, two, three, a, b, c, is), its, gathered) =
-    let x = spares.first.told in
-    let y = spares.second.told in
-    let z = spares.third.told in
-    let all : List Told = told ++ (spare ++ watched) in
-    let behind_three : List Told = [] ++ watched in
-    let behind_two : List Told = (z ++ three) ++ behind_three in
-    let behind_one : List Told = (y ++ two) ++ behind_two in
-    let third : ((z ++ three) ++ []) ++ watched ≡ behind_two = append_assoc (z ++ three) [] watched in
-    let second : ((y ++ two) ++ ((z ++ three) ++ [])) ++ watched ≡ behind_one =
-    append_assoc (y ++ two) ((z ++ three) ++ []) watched ∙ ap (λ (ts : List Told). (y ++ two) ++ ts) third in
-    let parts : all ≡ told ++ ((x ++ one) ++ behind_one) =
-    ap (λ (ts : List Told). told ++ (ts ++ watched)) is
-    ∙ ap (λ (ts : List Told). told ++ ts) (append_assoc (x ++ one) ((y ++ two) ++ ((z ++ three) ++ [])) watched ∙ ap (λ (ts : List Told). (x ++ one) ++ ts) second) in
-    let then_two : told ++ ((x ++ one) ++ behind_one) ≡ (told ++ (x ++ one)) ++ ((y ++ two) ++ behind_two) = sym (append_assoc told (x ++ one) behind_one) in
-    let then_three : (told ++ (x ++ one)) ++ ((y ++ two) ++ behind_two) ≡ ((told ++ (x ++ one)) ++ (y ++ two)) ++ ((z ++ three) ++ behind_three) =
-    sym (append_assoc (told ++ (x ++ one)) (y ++ two) behind_two) in (
-      one_of told x one behind_one all logs parts gathered,
-      one_of (told ++ (x ++ one)) y two behind_two all logs (parts ∙ then_two) gathered,
-      one_of ((told ++ (x ++ one)) ++ (y ++ two)) z three behind_three all logs (parts ∙ (then_two ∙ then_three)) gathered,
-    )
+begun_at : (logs : List Log) (files : List KeptFile) (first k n : ℕ) → k ≡ n → BeginsWith logs (first + k) (records_at files k) → BeginsWith logs (first + n) (records_at files n)
+begun_at logs files first k n is begins = subst (λ (m : ℕ). BeginsWith logs (first + m) (records_at files m)) is begins
+
+spared_at : (spares : List View) (told : List Told) (k n : ℕ) → k ≡ n → AreSpared k spares told → AreSpared n spares told
+spared_at spares told k n is are = subst (λ (m : ℕ). AreSpared m spares told) is are
+
+-- where spare passes were told what vnodes have taken over, the journals of these begin with it
+pub each_begins : (stand : LoadsStand) (logs : List Log) (files : List KeptFile) (watched : List Told) (first index : ℕ) (front all spared : List Told) (olds spares : List View) → HaveLoaded first index files olds spares
+    → AreSpared (first + index) spares spared → all ≡ front ++ (spared ++ watched) → IsGathered all logs → (k : ℕ) → k < length spares → BeginsWith logs (first + (index + k)) (records_at files (index + k))
+each_begins stand logs files watched first index front all spared olds [] loaded told is gathered k lt = absurd (omega (arith, lt))
+each_begins stand logs files watched first index front all spared [] (new ∷ spares) loaded told is gathered k lt = absurd loaded
+each_begins stand logs files watched first index front all spared (old ∷ olds) (new ∷ spares) (one, loaded) (more, rest, reads, parted, told) is gathered zero lt =
+    let split : all ≡ front ++ new.told ++ (more ++ (rest ++ watched)) = is ∙ (ap (λ (ts : List Told). front ++ (ts ++ watched)) parted ∙ parts front new.told more rest watched) in
+    begun_at logs files first index (index + 0) (omega arith)
+    (stand front (more ++ (rest ++ watched)) old new logs (first + index) (records_at files index) (subst (λ (ts : List Told). IsGathered ts logs) split gathered) one)
+each_begins stand logs files watched first index front all spared (old ∷ olds) (new ∷ spares) (one, loaded) (more, rest, reads, parted, told) is gathered (suc k) lt =
+    let split : all ≡ (front ++ (new.told ++ more)) ++ (rest ++ watched) = is ∙ (ap (λ (ts : List Told). front ++ (ts ++ watched)) parted ∙ behind front (new.told ++ more) rest watched) in
+    begun_at logs files first ((index + 1) + k) (index + suc k) (omega arith)
+    (each_begins stand logs files watched first (index + 1) (front ++ (new.told ++ more)) all rest olds spares loaded (spared_at spares rest ((first + index) + 1) (first + (index + 1)) (omega arith) told) split gathered k (omega (arith, lt)))
+
+-- so do all journals that are left
+pub all_begin : (stand : LoadsStand) (logs : List Log) (files : List KeptFile) (first vnodes : ℕ) (told : List Told) (olds spares : List View) → length spares ≡ vnodes → HaveLoaded first 0 files olds spares
+    → AreGathered first told spares logs → (k : ℕ) → k < vnodes → BeginsWith logs (first + k) (records_at files k)
+all_begin stand logs files first vnodes told olds spares many loaded (spared, watched, are, its, gathered) k lt =
+    begun_at logs files first (0 + k) k (omega arith)
+    (each_begins stand logs files watched first 0 told (told ++ (spared ++ watched)) spared olds spares loaded (spared_at spares spared first (first + 0) (omega arith) are) refl gathered k (omega (arith, lt, many)))

@@ -26,30 +26,25 @@ use Rattle.cluster_vnode.specs.declared.fault.CallFault.{CallFault}
 use Rattle.cluster_vnode.specs.declared.fault.CallFault.TheVariants as fault
 use Rattle.cluster_peers.specs.Peering.{IsNoReply, PassStep, Passes as Leaves, Reach}
 use Rattle.dvvstore.specs.Asides.{AllRead, AreReadBy, IsKeptBy, IsReadOf, Reads}
-use Rattle.kept_restore.specs.declared.beginning.Passes.{Passes}
 
 pub nothing_more : (vnode : ℕ) (old new : View) → new.told ≡ old.told → Reads vnode old new
 nothing_more vnode old new is = ([], is ∙ sym (append-nil old.told), All-nil (IsReadOf vnode))
 
 -- where nobody calls by spare passes, they are as they were
-pub all_read_same : {B : Type 0} → (first : ℕ) (spares : Passes B) → AllRead first spares spares
-all_read_same first spares =
-    (nothing_more (first + 0) spares.first spares.first refl, nothing_more (first + 1) spares.second spares.second refl, nothing_more (first + 2) spares.third spares.third refl)
+pub all_read_same : (first : ℕ) (spares : List View) → AllRead first spares spares
+all_read_same first [] = tt
+all_read_same first (spare ∷ spares) = (nothing_more first spare spare refl, all_read_same (first + 1) spares)
 
 pub reads_then : (vnode : ℕ) (old mid new : View) → Reads vnode old mid → Reads vnode mid new → Reads vnode old new
 reads_then vnode old mid new (more, first, each) (rest, next, others) =
     (more ++ rest, next ∙ ap (λ (ts : List Told). ts ++ rest) first ∙ append_assoc old.told more rest, All-append (IsReadOf vnode) more rest each others)
 
-pub all_read_then : {B : Type 0} → (first : ℕ) (old mid new : Passes B) → AllRead first old mid → AllRead first mid new → AllRead first old new
-all_read_then first old mid new a b = (
-  reads_then (first + 0) old.first mid.first new.first a.0 b.0,
-  reads_then (first + 1) old.second mid.second new.second a.1 b.1,
-  reads_then (first + 2) old.third mid.third new.third a.2 b.2,
-)
-
--- said of the same vnode and the same pass
-pub read_of : (first index k : ℕ) (pass old new : View) → index ≡ k → pass ≡ old → Reads (first + index) pass new → Reads (first + k) old new
-read_of first index k pass old new is same read = subst (λ (n : ℕ). Reads (first + n) old new) is (subst (λ (v : View). Reads (first + index) v new) same read)
+pub all_read_then : (first : ℕ) (old mid new : List View) → AllRead first old mid → AllRead first mid new → AllRead first old new
+all_read_then first [] [] new a b = b
+all_read_then first [] (m ∷ mid) new a b = absurd a
+all_read_then first (o ∷ old) [] new a b = absurd a
+all_read_then first (o ∷ old) (m ∷ mid) [] a b = absurd b
+all_read_then first (o ∷ old) (m ∷ mid) (n ∷ new) (a, all) (b, others) = (reads_then first o m n a b, all_read_then (first + 1) old mid new all others)
 
 -- ---- a call
 

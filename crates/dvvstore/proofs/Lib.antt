@@ -1,8 +1,10 @@
 mod Among
+mod Over
 mod Putting
 mod SeatSent
 mod Serving
 mod Sent
+mod Sides
 mod Staying
 mod Taking
 mod Told

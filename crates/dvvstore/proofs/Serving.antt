@@ -17,7 +17,7 @@ use Rattle.ring.specs.Places.{PlacementView}
 use Rattle.cluster_stamps.specs.declared.view.Size.{Size}
 use Rattle.server_one_thread.specs.Passes.{Passing}
 use Rattle.server_store.specs.View.{StoreView}
-use Rattle.kept_restore.specs.declared.beginning.Passes.{Passes}
+use Rattle.cluster_stamps.specs.declared.view.View.{View}
 use Rattle.dvvstore.proofs.VisitLemmas.{visits_gathered}
 use Rattle.dvvstore.specs.Asides.{AreGathered}
 use Rattle.dvvstore.specs.Crews.{by_digest}
@@ -57,35 +57,35 @@ starts_as takes held other starts now is are = subst (λ (h : Option (List ℕ))
 module _ {H : Type 0} (finds : H → List ℕ → ImageKind → Result (Option Program) NotSeen → H → Type 0)
     (names : H → List ℕ → ImageKind → Result (Option (List ℕ)) NameFault → H → Type 0) (takes : H → Change → Result Unit HookFault → H → Type 0) where
   -- where vnodes are left, they are left so
-  pub served_so : {E : Type 0} → (Begins : List (StoreView Passing H) → Type 0) (served : Result Served E) → IfOk served (HasServed finds names takes Begins) → LeavesServed finds names takes Begins (left_as served)
-  served_so Begins (Ok served) so = so
-  served_so Begins (Err why) so = tt
+  pub served_so : {E : Type 0} → (vnodes : ℕ) (Begins : List (StoreView Passing H) → Type 0) (served : Result Served E) → IfOk served (HasServed finds names takes vnodes Begins) → LeavesServed finds names takes vnodes Begins (left_as served)
+  served_so vnodes Begins (Ok served) so = so
+  served_so vnodes Begins (Err why) so = tt
 
   -- what a crew leaves
-  pub served_from : {E B : Type 0} → (held : Option (List ℕ)) (starts now : List (StoreView Passing H)) (id vnodes : ℕ) (spares : Passes B) (served : Result Served E) → AreStarts takes held starts now → vnodes ≡ 3
+  pub served_from : {E : Type 0} → (held : Option (List ℕ)) (starts now : List (StoreView Passing H)) (id vnodes : ℕ) (spares : List View) (served : Result Served E) → AreStarts takes held starts now
       → IfOk served (λ s. AfterAnswers finds names takes now s.closed.vnodes.items (λ told. AreGathered id told spares s.closed.vnodes.items) × (vec_len s.closed.vnodes ≡ vnodes))
-      → IfOk served (HasServed finds names takes (AreStarts takes held starts))
-  served_from held starts now id vnodes spares (Ok s) are three (kept, many) = (now, are, visits_gathered finds names takes now id spares s.closed.vnodes.items kept, many ∙ three)
-  served_from held starts now id vnodes spares (Err why) are three so = so
+      → IfOk served (HasServed finds names takes vnodes (AreStarts takes held starts))
+  served_from held starts now id vnodes spares (Ok s) are (kept, many) = (now, are, visits_gathered finds names takes now id spares s.closed.vnodes.items kept, many)
+  served_from held starts now id vnodes spares (Err why) are so = so
 
   -- the same of stores of which more is known
-  pub served_as : (Begins Are : List (StoreView Passing H) → Type 0) (left : Result Left Unbegun) → ((starts : List (StoreView Passing H)) → Begins starts → Are starts)
-      → LeavesServed finds names takes Begins left → LeavesServed finds names takes Are left
-  served_as Begins Are (Ok (Kept served)) f (starts, begins, visits, many) = (starts, f starts begins, visits, many)
-  served_as Begins Are (Ok Lost) f so = so
-  served_as Begins Are (Err why) f so = so
+  pub served_as : (vnodes : ℕ) (Begins Are : List (StoreView Passing H) → Type 0) (left : Result Left Unbegun) → ((starts : List (StoreView Passing H)) → Begins starts → Are starts)
+      → LeavesServed finds names takes vnodes Begins left → LeavesServed finds names takes vnodes Are left
+  served_as vnodes Begins Are (Ok (Kept served)) f (starts, begins, visits, many) = (starts, f starts begins, visits, many)
+  served_as vnodes Begins Are (Ok Lost) f so = so
+  served_as vnodes Begins Are (Err why) f so = so
 
 -- ---- which stores these are
 
 -- each seat begins with a store over these vnodes, which has the helpers of its table
 seats_over : {H S : Type 0} → (size : Size) (of : S → StoreView Passing H) (helpers : S → List Entry) (place : S → PlacementView) (copies : ℕ) → ((s : S) → (of s).listed ≡ helpers s)
-    → ((s : S) → (of s).peers.size ≡ size) → ((s : S) → (of s).placement ≡ place s) → (seats : List S) → All (λ (p : PlacementView). p ≡ by_digest copies) (map place seats)
+    → ((s : S) → (of s).peers.size ≡ size) → ((s : S) → (of s).placement ≡ place s) → (seats : List S) → All (λ (p : PlacementView). p ≡ by_digest size.vnodes copies) (map place seats)
     → (map (λ (v : StoreView Passing H). v.listed) (map of seats) ≡ map helpers seats) × All (IsOver size copies) (map of seats)
 seats_over size of helpers place copies listed sizes places [] placed = (refl, All-nil (IsOver size copies))
 seats_over size of helpers place copies listed sizes places (s ∷ seats) placed =
-    let rest = seats_over size of helpers place copies listed sizes places seats (All-tail (λ (p : PlacementView). p ≡ by_digest copies) (place s) (map place seats) placed) in (
+    let rest = seats_over size of helpers place copies listed sizes places seats (All-tail (λ (p : PlacementView). p ≡ by_digest size.vnodes copies) (place s) (map place seats) placed) in (
       ap (λ (l : List Entry). l ∷ map (λ (v : StoreView Passing _). v.listed) (map of seats)) (listed s) ∙ ap (λ (ls : List (List Entry)). helpers s ∷ ls) rest.0,
-      All-cons (IsOver size copies) (of s) (map of seats) (sizes s, places s ∙ All-head (λ (p : PlacementView). p ≡ by_digest copies) (place s) (map place seats) placed) rest.1,
+      All-cons (IsOver size copies) (of s) (map of seats) (sizes s, places s ∙ All-head (λ (p : PlacementView). p ≡ by_digest size.vnodes copies) (place s) (map place seats) placed) rest.1,
     )
 
 -- tables that were handed out from the last on
@@ -98,7 +98,7 @@ reversed f (x ∷ xs) = ap (map f) (reverse-push x xs) ∙ (map-append f (revers
 
 pub seats_begin : {H S T : Type 0} → (size : Size) (of : S → StoreView Passing H) (table : S → T) (listed : T → List Entry) (place : S → PlacementView) (copies : ℕ) → ((s : S) → (of s).listed ≡ listed (table s))
     → ((s : S) → (of s).peers.size ≡ size) → ((s : S) → (of s).placement ≡ place s) → (seats : List S) (tables : List T) → map table seats ≡ reverse tables
-    → All (λ (p : PlacementView). p ≡ by_digest copies) (map place seats) → AreOfTables size copies (map listed tables) (map of seats)
+    → All (λ (p : PlacementView). p ≡ by_digest size.vnodes copies) (map place seats) → AreOfTables size copies (map listed tables) (map of seats)
 seats_begin size of table listed place copies helpers sizes places seats tables handed placed =
     let over = seats_over size of (λ s. listed (table s)) place copies helpers sizes places seats placed in
     (over.0 ∙ (sym (map-map listed table seats) ∙ (ap (map listed) handed ∙ reversed listed tables)), over.1)

@@ -7,9 +7,8 @@ use Rattle.kept_file.specs.declared.file.KeptFile.{KeptFile}
 use Rattle.journal.specs.Logs.{Log}
 use Rattle.cluster_stamps.specs.declared.view.View.{View}
 use Rattle.cluster_vnode.specs.Calls.{pass_view}
-use Rattle.kept_file.specs.Files.{records_at}
 use Rattle.kept_fold.specs.Folds.{AreFolded}
-use Rattle.kept_restore.specs.Beginnings.{BeginWithFiles, BeginsWith}
+use Rattle.kept_restore.specs.Beginnings.{BeginWithFiles}
 use Rattle.audit_cluster.specs.Following.{IsSaidOf}
 use Rattle.commands.specs.Command.{HasRefused}
 use Rattle.commands.specs.declared.server.Unserved.{Unserved}
@@ -25,16 +24,18 @@ use Rattle.dvvstore.specs.declared.keeper.Unbegun.TheVariants.{Records, Hooks, U
 use Rattle.dvvstore.specs.declared.session.Left.{Left}
 use Rattle.dvvstore.specs.declared.session.Left.TheVariants.{Kept, Lost}
 
-pub leaves_as : {F : Type 0} → (folder : Option F) (first number : ℕ) (files : List KeptFile) (left : Result Left Unbegun) → first ≡ number → Leaves folder first files left → Leaves folder number files left
-leaves_as folder first number files left is so = subst (λ (n : ℕ). Leaves folder n files left) is so
+pub leaves_as : {F : Type 0} → (folder : Option F) (first number many vnodes : ℕ) (files : List KeptFile) (left : Result Left Unbegun) → first ≡ number → many ≡ vnodes
+    → Leaves folder first many files left → Leaves folder number vnodes files left
+leaves_as folder first number many vnodes files left is as_many so =
+    subst (λ (n : ℕ). Leaves folder n vnodes files left) is (subst (λ (n : ℕ). Leaves folder first n files left) as_many so)
 
 -- what begins with files whose keys are folded leaves what the folder held so
-pub leaves_folded : {F : Type 0} → (folder kept : Option F) (first number : ℕ) (held files : List KeptFile) (left : Result Left Unbegun) → number ≡ first / 256 → kept ≡ folder → AreFolded number held files
-    → Leaves kept first files left → LeavesFolded folder first held left
-leaves_folded folder kept first number held files (Ok (Kept served)) is same fold so =
-    (files, subst (λ (n : ℕ). AreFolded n held files) is fold, subst (λ f. IsLeftFrom f first files served) same so)
-leaves_folded folder kept first number held files (Ok Lost) is same fold so = tt
-leaves_folded folder kept first number held files (Err why) is same fold so = tt
+pub leaves_folded : {F : Type 0} → (folder kept : Option F) (first number vnodes : ℕ) (held files : List KeptFile) (left : Result Left Unbegun) → number ≡ first / 256 → kept ≡ folder → AreFolded number held files
+    → Leaves kept first vnodes files left → LeavesFolded folder first vnodes held left
+leaves_folded folder kept first number vnodes held files (Ok (Kept served)) is same fold so =
+    (files, subst (λ (n : ℕ). AreFolded n held files) is fold, subst (λ f. IsLeftFrom f first vnodes files served) same so)
+leaves_folded folder kept first number vnodes held files (Ok Lost) is same fold so = tt
+leaves_folded folder kept first number vnodes held files (Err why) is same fold so = tt
 
 -- of passes that were told nothing those before the last were told nothing, either
 pub fresh_before : (passes rest : List View) (pass : View) → All (λ (p : View). p ≡ pass_view 0 []) passes → passes ≡ rest ++ pass ∷ [] → All (λ (p : View). p ≡ pass_view 0 []) rest
@@ -43,22 +44,10 @@ fresh_before passes rest pass fresh is = λ k d lt.
     let long = length-append rest (pass ∷ []) in
     sym (get_or_append_left rest (pass ∷ []) d k lt) ∙ same k d (omega (arith, lt, long))
 
-at_index : (logs : List Log) (first : ℕ) (files : List KeptFile) (index : ℕ) → index < 3 → BeginsWith logs (first + 0) (records_at files 0) → BeginsWith logs (first + 1) (records_at files 1)
-    → BeginsWith logs (first + 2) (records_at files 2) → BeginsWith logs (first + index) (records_at files index)
-at_index logs first files zero lt one two three = one
-at_index logs first files (suc zero) lt one two three = two
-at_index logs first files (suc (suc zero)) lt one two three = three
-at_index logs first files (suc (suc (suc index))) lt one two three = absurd (omega (arith, lt))
-
--- three vnodes, one by one
-pub three_begin : (logs : List Log) (first : ℕ) (files : List KeptFile) → BeginsWith logs (first + 0) (records_at files 0) → BeginsWith logs (first + 1) (records_at files 1)
-    → BeginsWith logs (first + 2) (records_at files 2) → BeginWithFiles logs first files 3
-three_begin logs first files one two three = λ index lt. at_index logs first files index lt one two three
-
 -- where vnodes are left, they are left so
-pub left_so : {F E : Type 0} → (folder : Option F) (first : ℕ) (files : List KeptFile) (served : Result Served E) → IfOk served (IsLeftFrom folder first files) → Leaves folder first files (left_as served)
-left_so folder first files (Ok served) so = so
-left_so folder first files (Err why) so = tt
+pub left_so : {F E : Type 0} → (folder : Option F) (first vnodes : ℕ) (files : List KeptFile) (served : Result Served E) → IfOk served (IsLeftFrom folder first vnodes files) → Leaves folder first vnodes files (left_as served)
+left_so folder first vnodes files (Ok served) so = so
+left_so folder first vnodes files (Err why) so = tt
 
 -- how a store began is told of whatever is left of it
 pub tells_so : {N E : Type 0} → (door : Door N) (served : Result Served E) (before after : Option (List ℕ)) → TellsBeginning door before after → Tells door (left_as served) before after
@@ -78,10 +67,10 @@ tells_unreadable d (Ok left) before after was = absurd was
 tells_unreadable d (Err why) before after was = subst (λ (w : Unbegun). Tells d (Err w) before after) (sym was) tt
 
 -- what is left of a store that has begun with files: its journals begin with the merges of these, and what is said is said from its fronts on
-pub left_from : {F E : Type 0} → (folder : Option F) (first : ℕ) (files : List KeptFile) (fronts : List ℕ) (served : Result Served E) → fronts ≡ fronts_for folder files
-    → IfOk served (λ s. BeginWithFiles s.closed.vnodes.items first files 3) → IfOk served (λ s. IsSaidOf fronts s.closed.vnodes.items s.closed.said) → IfOk served (IsLeftFrom folder first files)
-left_from folder first files fronts (Ok s) is begin said = (begin, subst (λ (fs : List ℕ). IsSaidOf fs s.closed.vnodes.items s.closed.said) is said)
-left_from folder first files fronts (Err why) is begin said = begin
+pub left_from : {F E : Type 0} → (folder : Option F) (first vnodes : ℕ) (files : List KeptFile) (fronts : List ℕ) (served : Result Served E) → fronts ≡ fronts_for folder vnodes files
+    → IfOk served (λ s. BeginWithFiles s.closed.vnodes.items first files vnodes) → IfOk served (λ s. IsSaidOf fronts s.closed.vnodes.items s.closed.said) → IfOk served (IsLeftFrom folder first vnodes files)
+left_from folder first vnodes files fronts (Ok s) is begin said = (begin, subst (λ (fs : List ℕ). IsSaidOf fs s.closed.vnodes.items s.closed.said) is said)
+left_from folder first vnodes files fronts (Err why) is begin said = begin
 
 -- nothing was told of a store that didn't begin
 untold_so : (why : Unbegun) (before mid : Option (List ℕ)) → IsRefusal why → TellsNothing why before mid → mid ≡ before

@@ -35,14 +35,12 @@ use Rattle.kept_file.specs.declared.file.KeptFile.{KeptFile}
 use Rattle.kept_restore.specs.Beginnings.{BeginWithFiles, BeginsWith}
 use Rattle.kept_restore.specs.Loads.{HasLoaded}
 use Rattle.record_codec.specs.declared.record.Record.{Record}
-use Rattle.dvvstore.proofs.Among.{each_among}
-use Rattle.dvvstore.proofs.Staying.{three_begin}
+use Rattle.dvvstore.proofs.Among.{LoadsStand, all_begin}
 use Rattle.server_receipts.specs.Receipts.{AreToldBy}
 use Rattle.dvvstore.specs.Asides.{AreGathered, WithAsides}
 use Rattle.dvvstore.specs.Keeping.{HasBegunWith}
 use Rattle.dvvstore.specs.declared.crew.running.Served.{Served}
 use Rattle.dvvstore.specs.declared.keeper.Begun.{Begun}
-use Rattle.kept_restore.specs.declared.beginning.Passes.{Passes}
 use Rattle.dvvstore.specs.Visits.{AfterAnswers, AfterAnswersOf, AllTellOf, AreVisits, HasAll, HasLed, HasVisited, HaveVisited, IsVisit, Leads, begun, told_with}
 
 -- ---- turn by turn
@@ -186,14 +184,14 @@ module _ {H : Type 0} (finds : H → List ℕ → ImageKind → Result (Option P
 -- ---- what was gathered
 
 -- what spare passes had been told stands among it
-pub gathered_after : {H B : Type 0} (finds : H → List ℕ → ImageKind → Result (Option Program) NotSeen → H → Type 0) (names : H → List ℕ → ImageKind → Result (Option (List ℕ)) NameFault → H → Type 0)
-    (takes : H → Change → Result Unit HookFault → H → Type 0) (starts : List (StoreView Passing H)) (id : ℕ) (spares : Passes B) (logs : List JournalLog)
+pub gathered_after : {H : Type 0} (finds : H → List ℕ → ImageKind → Result (Option Program) NotSeen → H → Type 0) (names : H → List ℕ → ImageKind → Result (Option (List ℕ)) NameFault → H → Type 0)
+    (takes : H → Change → Result Unit HookFault → H → Type 0) (starts : List (StoreView Passing H)) (id : ℕ) (spares : List View) (logs : List JournalLog)
     → AfterAnswers finds names takes starts logs (λ told. AreGathered id told spares logs) → (told : List Told) × AreGathered id told spares logs
 gathered_after finds names takes starts id spares logs (calls, visits, gathered, tell) = (told_with starts calls, gathered)
 
 -- what the workers were told stands among it
-pub visits_gathered : {H B : Type 0} (finds : H → List ℕ → ImageKind → Result (Option Program) NotSeen → H → Type 0) (names : H → List ℕ → ImageKind → Result (Option (List ℕ)) NameFault → H → Type 0)
-    (takes : H → Change → Result Unit HookFault → H → Type 0) (starts : List (StoreView Passing H)) (id : ℕ) (spares : Passes B) (logs : List JournalLog)
+pub visits_gathered : {H : Type 0} (finds : H → List ℕ → ImageKind → Result (Option Program) NotSeen → H → Type 0) (names : H → List ℕ → ImageKind → Result (Option (List ℕ)) NameFault → H → Type 0)
+    (takes : H → Change → Result Unit HookFault → H → Type 0) (starts : List (StoreView Passing H)) (id : ℕ) (spares : List View) (logs : List JournalLog)
     → AfterAnswers finds names takes starts logs (λ told. AreGathered id told spares logs) → AfterAnswers finds names takes starts logs (λ told. HasAll told logs)
 visits_gathered finds names takes starts id spares logs (calls, visits, (spare, watched, spared, its, gathered), tell) = (calls, visits, (spare ++ watched, gathered), tell)
 
@@ -202,25 +200,17 @@ pub if_both : {T E : Type 0} (r : Result T E) (P Q R : T → Type 0) → ((v : T
 if_both (Ok v) P Q R f p q = f v p q
 if_both (Err e) P Q R f p q = p
 
--- the law of loads, as `kept_restore` has it
-abbrev LoadsStand : Type 0
-LoadsStand = (before after : List Told) (old new : View) (logs : List JournalLog) (id : ℕ) (records : List Record) → IsGathered (before ++ new.told ++ after) logs → HasLoaded old new id records → BeginsWith logs id records
-
 -- where a store has begun with files, the journals that are left of it begin with the merges of what these hold
 pub begins_from : {H F B E : Type 0} (finds : H → List ℕ → ImageKind → Result (Option Program) NotSeen → H → Type 0) (names : H → List ℕ → ImageKind → Result (Option (List ℕ)) NameFault → H → Type 0)
-    (takes : H → Change → Result Unit HookFault → H → Type 0) (starts : List (StoreView Passing H)) (folder : Option F) (first : ℕ) (files : List KeptFile) (begun : Begun B) (served : Result Served E) (More : Served → Type 0)
-    → LoadsStand → HasBegunWith folder first files begun
-    → IfOk served (λ s. AfterAnswers finds names takes starts s.closed.vnodes.items (λ told. AreGathered first told begun.spares s.closed.vnodes.items) × More s)
-    → IfOk served (λ s. BeginWithFiles s.closed.vnodes.items first files 3)
-begins_from finds names takes starts folder first files begun (Err why) More stand has kept = kept
-begins_from finds names takes starts folder first files begun (Ok s) More stand (one, two, three, a, b, c, fronts, number) kept =
+    (takes : H → Change → Result Unit HookFault → H → Type 0) (starts : List (StoreView Passing H)) (folder : Option F) (first vnodes : ℕ) (files : List KeptFile) (begun : Begun B) (served : Result Served E) (More : Served → Type 0)
+    → LoadsStand → HasBegunWith folder first vnodes files begun → length begun.spares.items ≡ vnodes
+    → IfOk served (λ s. AfterAnswers finds names takes starts s.closed.vnodes.items (λ told. AreGathered first told begun.spares.items s.closed.vnodes.items) × More s)
+    → IfOk served (λ s. BeginWithFiles s.closed.vnodes.items first files vnodes)
+begins_from finds names takes starts folder first vnodes files begun (Err why) More stand has many kept = kept
+begins_from finds names takes starts folder first vnodes files begun (Ok s) More stand (fresh, loaded, fronts, number) many kept =
     let logs = s.closed.vnodes.items in
-    let found = gathered_after finds names takes starts first begun.spares logs kept.0 in
-    let each = each_among first found.0 begun.spares logs found.1 in
-    three_begin logs first files
-    (stand each.0.0 each.0.1 one begun.spares.first logs (first + 0) (records_at files 0) each.0.2 a)
-    (stand each.1.0 each.1.1 two begun.spares.second logs (first + 1) (records_at files 1) each.1.2 b)
-    (stand each.2.0 each.2.1 three begun.spares.third logs (first + 2) (records_at files 2) each.2.2 c)
+    let found = gathered_after finds names takes starts first begun.spares.items logs kept.0 in
+    all_begin stand logs files first vnodes found.0 fresh begun.spares.items many loaded found.1
 
 -- ---- what answers tell
 
@@ -241,7 +231,7 @@ module _ {H : Type 0} (finds : H → List ℕ → ImageKind → Result (Option P
   )
 
   -- so they do of the journals that are left
-  pub answers_after : {B : Type 0} (starts : List (StoreView Passing H)) (id : ℕ) (spares : Passes B) (logs : List JournalLog) (calls : List (List Told)) (visits : AreVisits finds names takes starts calls)
+  pub answers_after : (starts : List (StoreView Passing H)) (id : ℕ) (spares : List View) (logs : List JournalLog) (calls : List (List Told)) (visits : AreVisits finds names takes starts calls)
       → AreGathered id (told_with starts calls) spares logs → AfterAnswers finds names takes starts logs (λ told. AreGathered id told spares logs)
   answers_after starts id spares logs calls visits (spare, watched, spared, its, gathered) = (
     calls,
@@ -251,7 +241,7 @@ module _ {H : Type 0} (finds : H → List ℕ → ImageKind → Result (Option P
   )
 
   -- and of whatever journals hold all that was told
-  pub answers_of : {B : Type 0} (starts : List (StoreView Passing H)) (id : ℕ) (spares : Passes B) (Says : List Told → Type 0) (calls : List (List Told)) (visits : AreVisits finds names takes starts calls)
+  pub answers_of : (starts : List (StoreView Passing H)) (id : ℕ) (spares : List View) (Says : List Told → Type 0) (calls : List (List Told)) (visits : AreVisits finds names takes starts calls)
       → WithAsides id spares Says (told_with starts calls) → AfterAnswersOf finds names takes starts (λ told all. WithAsides id spares (λ these. (these ≡ all) × Says all) told)
   answers_of starts id spares Says calls visits (spare, watched, spared, its, says) = (
     calls,

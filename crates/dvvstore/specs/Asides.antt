@@ -1,5 +1,5 @@
 -- What is done beside workers.
-use Rattle.std.specs.Prelude.{◌≡◌, ◌+◌, ◌++◌, ◌∷◌, ℕ, All, List, [], length, Result, Ok}
+use Rattle.std.specs.Prelude.{◌≡◌, ◌+◌, ◌-◌, ◌/◌, ◌^◌, ◌++◌, ◌∷◌, ℕ, All, List, [], length, min, sum, MatchOption, Option, Result, Ok, codes, true}
 use Rattle.journal.specs.Logs.{Log}
 use Rattle.key_state.specs.declared.content.Key.{Key}
 use Rattle.record_codec.specs.declared.record.Record.{Record}
@@ -13,9 +13,12 @@ use Rattle.cluster_stamps.specs.declared.view.View.{View}
 use Rattle.cluster_vnode.specs.Gathers.{IsGathered}
 use Rattle.audit_cluster.specs.Following.{IsOfWatch}
 use Rattle.kept_file.specs.Files.{IsFileOf}
+use Rattle.kept_folder.specs.Numbers.{number_text}
 use Rattle.kept_folder.specs.Reads.{name_of}
+use Rattle.kept_folder.specs.Seals.{sealed}
 use Rattle.kept_folder.specs.Steps.{IsPut, Step}
-use Rattle.kept_restore.specs.declared.beginning.Passes.{Passes}
+use Rattle.kept_hooks.specs.Lists.{Listed}
+use Rattle.kept_hooks.specs.Spelling.{all_spelled}
 
 -- this vnode was asked for the state of a key, whatever it answered
 abbrev pub IsReadOf : ℕ → Told → Type 0
@@ -25,26 +28,25 @@ IsReadOf vnode t = (t.vnode ≡ vnode) × ((key : Key) × (came : Result Reply P
 abbrev pub Reads : ℕ → View → View → Type 0
 Reads vnode old new = (more : List Told) × (new.told ≡ old.told ++ more) × All (IsReadOf vnode) more
 
--- so was each of spare passes, of a vnode of its own: these are numbered from the first on
-abbrev pub AllRead : {B : Type 0} → ℕ → Passes B → Passes B → Type 0
-AllRead first old new = Reads (first + 0) old.first new.first × Reads (first + 1) old.second new.second × Reads (first + 2) old.third new.third
-
--- the passes, in a list
-abbrev pub passes_of : {B : Type 0} → Passes B → List View
-passes_of spares = spares.first ∷ spares.second ∷ spares.third ∷ []
+-- so was each of passes, each of a vnode of its own: these are numbered from the first on
+abbrev pub AllRead : ℕ → List View → List View → Type 0
+AllRead first [] [] = Unit {0}
+AllRead first [] (new ∷ rest) = ⊥
+AllRead first (old ∷ others) [] = ⊥
+AllRead first (old ∷ others) (new ∷ rest) = Reads first old new × AllRead (first + 1) others rest
 
 -- this is what spare passes were told in the end, of which this had been told before: reads alone came behind it
-abbrev pub AreSpared : {B : Type 0} → ℕ → Passes B → List Told → Type 0
-AreSpared first spares told =
-    (one two three : List Told) × All (IsReadOf (first + 0)) one × All (IsReadOf (first + 1)) two × All (IsReadOf (first + 2)) three
-    × (told ≡ (spares.first.told ++ one) ++ ((spares.second.told ++ two) ++ ((spares.third.told ++ three) ++ [])))
+abbrev pub AreSpared : ℕ → List View → List Told → Type 0
+AreSpared first [] told = told ≡ []
+AreSpared first (spare ∷ spares) told =
+    (more rest : List Told) × All (IsReadOf first) more × (told ≡ (spare.told ++ more) ++ rest) × AreSpared (first + 1) spares rest
 
 -- what was told is this, what spare passes were told, and what a watch was told, which has vnodes hand out and start again and does nothing else
-abbrev pub WithAsides : {B : Type 0} → ℕ → Passes B → (List Told → Type 0) → List Told → Type 0
+abbrev pub WithAsides : ℕ → List View → (List Told → Type 0) → List Told → Type 0
 WithAsides first spares Says told = (spared watched : List Told) × AreSpared first spares spared × All IsOfWatch watched × Says (told ++ (spared ++ watched))
 
 -- all that is gathered in these journals, each of it once
-abbrev pub AreGathered : {B : Type 0} → ℕ → List Told → Passes B → List Log → Type 0
+abbrev pub AreGathered : ℕ → List Told → List View → List Log → Type 0
 AreGathered first told spares logs = WithAsides first spares (λ all. IsGathered all logs) told
 
 -- ---- snapshots
@@ -61,3 +63,39 @@ abbrev pub IsKeptBy : {F : Type 0} → (F → Step → F → Type 0) → F → �
 IsKeptBy {F} does folder id index old new count =
     (more : List Told) × (new.told ≡ old.told ++ more) × (records : List Record) × AreReadBy more records × (count ≡ length records)
     × ((bytes : List ℕ) × IsFileOf id records bytes × ((after : F) × IsPut does folder (name_of index) bytes after))
+
+module _ {F : Type 0} (does : F → Step → F → Type 0) (folder : F) (first : ℕ) where
+  -- so was that of each vnode from an index on, each by a pass of its own; they are numbered from the first on
+  abbrev pub AreKeptBy : ℕ → List View → List View → List ℕ → Type 0
+  AreKeptBy index [] [] [] = Unit {0}
+  AreKeptBy index [] [] (count ∷ counts) = ⊥
+  AreKeptBy index [] (new ∷ rest) counts = ⊥
+  AreKeptBy index (old ∷ others) [] counts = ⊥
+  AreKeptBy index (old ∷ others) (new ∷ rest) [] = ⊥
+  AreKeptBy index (old ∷ others) (new ∷ rest) (count ∷ counts) = IsKeptBy does folder (first + index) index old new count × AreKeptBy (index + 1) others rest counts
+
+  -- the files of all vnodes were put, and so many keys are told: as many as they hold together, as far as that can be told
+  abbrev pub AreAllKept : List View → List View → ℕ → Type 0
+  AreAllKept old new keys = (counts : List ℕ) × AreKeptBy 0 old new counts × (keys ≡ min (sum counts) (2 ^ 64 - 1))
+
+-- these are the requests that make hooks what they are, of which none is lacking
+abbrev pub IsWholeList : List ℕ → Type 0
+IsWholeList held = (requests : Listed) × (requests.whole ≡ true) × (held ≡ all_spelled requests.requests)
+
+-- they were put
+abbrev pub AreListed : {F : Type 0} → (F → Step → F → Type 0) → F → F → Type 0
+AreListed does old new = (held : List ℕ) × IsWholeList held × IsPut does old (codes "hooks.requests") (sealed held) new
+
+module _ {F : Type 0} (finds : F → List ℕ → Option (List ℕ) → Type 0) (does : F → Step → F → Type 0) where
+  -- the number of a start is there: it was put where it was lacking
+  abbrev pub HasNumber : ℕ → F → F → Type 0
+  HasNumber number old new =
+      (found : Option (List ℕ)) × finds old (codes "incarnation") found × MatchOption found (IsPut does old (codes "incarnation") (sealed (number_text number)) new) (λ bytes. new ≡ old)
+
+  -- so they were behind the files of vnodes, and the number of the start is there
+  abbrev pub IsRestKept : ℕ → F → F → Type 0
+  IsRestKept number old new = (mid : F) × AreListed does old mid × HasNumber number mid new
+
+  -- a snapshot of vnodes, numbered from the first on, by these passes: all files were put, and so many keys are told
+  abbrev pub IsKept : ℕ → F → List View → List View → F → ℕ → Type 0
+  IsKept first folder old new after keys = AreAllKept does folder first old new keys × IsRestKept (first / 256) folder after

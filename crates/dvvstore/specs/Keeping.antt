@@ -1,5 +1,5 @@
 -- What stands on the output when a store that is kept has ended (this store's profile).
-use Rattle.std.specs.Prelude.{◌≡◌, ◌+◌, ◌/◌, ◌++◌, ◌∷◌, ℕ, List, [], MatchOption, Option, Some, None, Result, Ok, Err, true, codes, decimal, vec_len}
+use Rattle.std.specs.Prelude.{◌≡◌, ◌/◌, ◌++◌, ◌∷◌, ℕ, List, [], Option, Some, None, Result, Ok, Err, true, codes, decimal, vec_len}
 use Rattle.bpf_image.specs.declared.image.ImageKind.{ImageKind}
 use Rattle.bpf_verifier.specs.Program.{Program}
 use Rattle.hook_registry.specs.Changes.{Change}
@@ -13,19 +13,17 @@ use Rattle.commands.specs.declared.server.Ended.{Ended}
 use Rattle.commands.specs.declared.server.Ended.TheVariants as ended
 use Rattle.audit_cluster.specs.Following.{IsSaidOf}
 use Rattle.kept_file.specs.declared.file.KeptFile.{KeptFile}
-use Rattle.kept_file.specs.Files.{records_at}
 use Rattle.kept_fold.specs.Folds.{AreFolded}
-use Rattle.kept_folder.specs.Numbers.{number_text}
 use Rattle.kept_folder.specs.Seals.{sealed}
-use Rattle.kept_folder.specs.Steps.{ArePut, AreFilesOf, IsPut, Put, Step}
+use Rattle.kept_folder.specs.Steps.{ArePut, AreFilesOf, Put, Step}
 use Rattle.journal.specs.Logs.{Log}
 use Rattle.kept_hooks.specs.Lists.{Listed}
 use Rattle.kept_hooks.specs.Spelling.{all_spelled}
-use Rattle.kept_restore.specs.Beginnings.{BeginWithFiles, fronts_to}
-use Rattle.kept_restore.specs.Loads.{HasLoaded}
+use Rattle.kept_restore.specs.Beginnings.{BeginWithFiles, HaveLoaded, fronts_to}
 use Rattle.cluster_stamps.specs.declared.view.View.{View}
 use Rattle.server_one_thread.specs.Passes.{Passing}
 use Rattle.server_store.specs.View.{StoreView}
+use Rattle.dvvstore.specs.Asides.{HasNumber}
 use Rattle.dvvstore.specs.Visits.{AfterAnswers, HasAll}
 use Rattle.dvvstore.specs.declared.crew.running.Served.{Served}
 use Rattle.dvvstore.specs.declared.keeper.Begun.{Begun}
@@ -69,71 +67,73 @@ abbrev pub HasEnded : {V : Type 0} → Option (List ℕ) → Option (List ℕ) �
 HasEnded before after (ended.Kept said) = (kept : ℕ) × Appends before after (line (codes "kept " ++ decimal kept))
 HasEnded before after (ended.Unkept said) = (why : List ℕ) × Appends before after (line (codes "not kept " ++ why))
 
+-- not all of it was kept
+abbrev pub IsUnkept : {V : Type 0} → Ended V → Type 0
+IsUnkept (ended.Kept said) = ⊥
+IsUnkept (ended.Unkept said) = Unit {0}
+
 -- ---- what a store begins with, and what is left of it
 
 -- how many of the first entries of each vnode were there before: none are named where no folder keeps the store
-abbrev pub fronts_for : {F : Type 0} → Option F → List KeptFile → List ℕ
-fronts_for None files = []
-fronts_for (Some folder) files = fronts_to files 3
+abbrev pub fronts_for : {F : Type 0} → Option F → ℕ → List KeptFile → List ℕ
+fronts_for None vnodes files = []
+fronts_for (Some folder) vnodes files = fronts_to files vnodes
 
 -- the requests that install and bind hooks, where a folder keeps the store
 abbrev pub hooks_for : {F : Type 0} → Option F → List ℕ → Option (List ℕ)
 hooks_for None held = None
 hooks_for (Some folder) held = Some held
 
--- the three vnodes, numbered from the first on, have taken over what these files hold, each what is its own by index, each record once and in order; its own pass
--- was told of that, and of nothing else since; and their fronts are the numbers of these records, where a folder keeps the store
-abbrev pub HasBegunWith : {F B : Type 0} → Option F → ℕ → List KeptFile → Begun B → Type 0
-HasBegunWith folder first files begun =
-    (one two three : View) × HasLoaded one begun.spares.first (first + 0) (records_at files 0) × HasLoaded two begun.spares.second (first + 1) (records_at files 1)
-    × HasLoaded three begun.spares.third (first + 2) (records_at files 2) × (begun.fronts.items ≡ fronts_for folder files) × (begun.first ≡ first)
+-- so many vnodes, numbered from the first on, have taken over what these files hold, each what is its own by index, each record once and in order; its own pass was
+-- told of that, and of nothing else since; and their fronts are the numbers of these records, where a folder keeps the store
+abbrev pub HasBegunWith : {F B : Type 0} → Option F → ℕ → ℕ → List KeptFile → Begun B → Type 0
+HasBegunWith folder first vnodes files begun =
+    (fresh : List View) × HaveLoaded first 0 files fresh begun.spares.items × (vec_len begun.spares ≡ vnodes) × (begun.fronts.items ≡ fronts_for folder vnodes files)
+    × (begun.first ≡ first)
 
 -- the journals of the vnodes that a store leaves begin with the merges of what these files hold, each with its own, and what is said of them is said from there on
-abbrev pub IsLeftFrom : {F : Type 0} → Option F → ℕ → List KeptFile → Served → Type 0
-IsLeftFrom folder first files served = BeginWithFiles served.closed.vnodes.items first files 3 × IsSaidOf (fronts_for folder files) served.closed.vnodes.items served.closed.said
+abbrev pub IsLeftFrom : {F : Type 0} → Option F → ℕ → ℕ → List KeptFile → Served → Type 0
+IsLeftFrom folder first vnodes files served =
+    BeginWithFiles served.closed.vnodes.items first files vnodes × IsSaidOf (fronts_for folder vnodes files) served.closed.vnodes.items served.closed.said
 
 -- so it is of what is left of a store, where vnodes are
-abbrev pub Leaves : {F : Type 0} → Option F → ℕ → List KeptFile → Result Left Unbegun → Type 0
-Leaves folder first files (Ok (Kept served)) = IsLeftFrom folder first files served
-Leaves folder first files (Ok Lost) = Unit {0}
-Leaves folder first files (Err why) = Unit {0}
+abbrev pub Leaves : {F : Type 0} → Option F → ℕ → ℕ → List KeptFile → Result Left Unbegun → Type 0
+Leaves folder first vnodes files (Ok (Kept served)) = IsLeftFrom folder first vnodes files served
+Leaves folder first vnodes files (Ok Lost) = Unit {0}
+Leaves folder first vnodes files (Err why) = Unit {0}
 
 -- the same of what a folder held: the start that those numbers belong to has folded its keys
-abbrev pub IsLeftFolded : {F : Type 0} → Option F → ℕ → List KeptFile → Served → Type 0
-IsLeftFolded folder first held served = (files : List KeptFile) × AreFolded (first / 256) held files × IsLeftFrom folder first files served
+abbrev pub IsLeftFolded : {F : Type 0} → Option F → ℕ → ℕ → List KeptFile → Served → Type 0
+IsLeftFolded folder first vnodes held served = (files : List KeptFile) × AreFolded (first / 256) held files × IsLeftFrom folder first vnodes files served
 
-abbrev pub LeavesFolded : {F : Type 0} → Option F → ℕ → List KeptFile → Result Left Unbegun → Type 0
-LeavesFolded folder first held (Ok (Kept served)) = IsLeftFolded folder first held served
-LeavesFolded folder first held (Ok Lost) = Unit {0}
-LeavesFolded folder first held (Err why) = Unit {0}
+abbrev pub LeavesFolded : {F : Type 0} → Option F → ℕ → ℕ → List KeptFile → Result Left Unbegun → Type 0
+LeavesFolded folder first vnodes held (Ok (Kept served)) = IsLeftFolded folder first vnodes held served
+LeavesFolded folder first vnodes held (Ok Lost) = Unit {0}
+LeavesFolded folder first vnodes held (Err why) = Unit {0}
 
 module _ {H : Type 0} (finds : H → List ℕ → ImageKind → Result (Option Program) NotSeen → H → Type 0)
     (names : H → List ℕ → ImageKind → Result (Option (List ℕ)) NameFault → H → Type 0) (takes : H → Change → Result Unit HookFault → H → Type 0) where
-  -- What is left of a store whose workers began so: each had its visit, in the journals of three vnodes stands what they were told, each of it once, and each of their
+  -- What is left of a store whose workers began so: each had its visit, in the journals of so many vnodes stands what they were told, each of it once, and each of their
   -- answers tells of these journals.
-  abbrev pub HasServed : (List (StoreView Passing H) → Type 0) → Served → Type 0
-  HasServed Begins served =
-      (starts : List (StoreView Passing H)) × Begins starts × AfterAnswers finds names takes starts served.closed.vnodes.items (λ told. HasAll told served.closed.vnodes.items) × (vec_len served.closed.vnodes ≡ 3)
+  abbrev pub HasServed : ℕ → (List (StoreView Passing H) → Type 0) → Served → Type 0
+  HasServed vnodes Begins served =
+      (starts : List (StoreView Passing H)) × Begins starts × AfterAnswers finds names takes starts served.closed.vnodes.items (λ told. HasAll told served.closed.vnodes.items)
+      × (vec_len served.closed.vnodes ≡ vnodes)
 
   -- so it is, where vnodes are left
-  abbrev pub LeavesServed : (List (StoreView Passing H) → Type 0) → Result Left Unbegun → Type 0
-  LeavesServed Begins (Ok (Kept served)) = HasServed Begins served
-  LeavesServed Begins (Ok Lost) = Unit {0}
-  LeavesServed Begins (Err why) = Unit {0}
+  abbrev pub LeavesServed : ℕ → (List (StoreView Passing H) → Type 0) → Result Left Unbegun → Type 0
+  LeavesServed vnodes Begins (Ok (Kept served)) = HasServed vnodes Begins served
+  LeavesServed vnodes Begins (Ok Lost) = Unit {0}
+  LeavesServed vnodes Begins (Err why) = Unit {0}
 
 -- ---- what a stop writes
 
 module _ {F : Type 0} (finds : F → List ℕ → Option (List ℕ) → Type 0) (does : F → Step → F → Type 0) where
-  -- the number of a start is there: it was put where it was lacking
-  abbrev pub HasNumber : ℕ → F → F → Type 0
-  HasNumber number old new =
-      (found : Option (List ℕ)) × finds old (codes "incarnation") found × MatchOption found (IsPut does old (codes "incarnation") (sealed (number_text number)) new) (λ bytes. new ≡ old)
-
   -- All files of a store that has ended were put: the number of its start, where that was lacking, of each of these vnodes what its journal leaves, and the requests
   -- that make its hooks what they are, none of which is lacking.
   abbrev pub ArePutOf : ℕ → List Log → Listed → F → F → Type 0
   ArePutOf number vnodes requests old new =
-      (mid : F) × HasNumber number old mid × (requests.whole ≡ true)
+      (mid : F) × HasNumber finds does number old mid × (requests.whole ≡ true)
       × ((files : List Put) × AreFilesOf 0 vnodes files
       × ArePut does mid (files ++ record { name = codes "hooks.requests"; bytes = sealed (all_spelled requests.requests) } ∷ []) new)
 

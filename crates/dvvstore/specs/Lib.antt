@@ -1,4 +1,5 @@
 pub mod Asides
 pub mod Crews
 pub mod Keeping
+pub mod Over
 pub mod Visits

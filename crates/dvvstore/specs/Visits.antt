@@ -72,7 +72,7 @@ module _ {H : Type 0} (takes : H → Change → Result Unit HookFault → H → 
 
 -- a store is over these vnodes, where keys stand as their digests say, with so many copies
 abbrev pub IsOver : {H : Type 0} → Size → ℕ → StoreView Passing H → Type 0
-IsOver size copies start = (start.peers.size ≡ size) × (start.placement ≡ by_digest copies)
+IsOver size copies start = (start.peers.size ≡ size) × (start.placement ≡ by_digest size.vnodes copies)
 
 -- there is a store over these vnodes for each table, whose hooks may call its helpers: that of the last table is the first
 abbrev pub AreOfTables : {H : Type 0} → Size → ℕ → List (List Entry) → List (StoreView Passing H) → Type 0

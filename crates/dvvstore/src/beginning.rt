@@ -1,6 +1,6 @@
 //! How the vnodes of a store take over what a folder held, while that is followed.
 
-ghost use Rattle.std.specs.Prelude.{◌≡◌, IfOk};
+ghost use Rattle.std.specs.Prelude.{◌≡◌, ◌≤◌, IfOk, map, vec_len};
 ghost use Rattle.kept_restore.specs.Beginnings.{HaveLoaded};
 
 use crate::crew::Lookout;
@@ -12,7 +12,7 @@ use crate::limits::{
 use audit_cluster::Spot;
 use cluster::{Cluster, Room};
 use kept_file::KeptFile;
-use kept_restore::{Passes, Throttle, Unloaded, load_all};
+use kept_restore::{Loader, Loading, Throttle, Unloaded};
 use std::sync::Wait;
 use std::sync::atomic::AtomicBool;
 use std::sync::atomic::Ordering::SeqCst;
@@ -28,8 +28,6 @@ pub struct Load<'a, R> {
     is_behind: AtomicBool,
     /// Whether they have ended.
     is_over: AtomicBool,
-    /// What each of them waits on, by its vnode's index.
-    beds: [Parker; 3],
 }
 
 impl<'a, R: Wait> Load<'a, R> {
@@ -38,55 +36,71 @@ impl<'a, R: Wait> Load<'a, R> {
             rt,
             is_behind: AtomicBool::new(false),
             is_over: AtomicBool::new(false),
-            beds: [Parker::new(), Parker::new(), Parker::new()],
         }
     }
 }
 
 impl<R: Wait> Throttle for Load<'_, R> {
-    fn before(&self, vnode: usize, place: usize) {
-        if place % LOAD_LOOK_RECORDS != 0 || !self.is_behind.load(SeqCst) {
-            return;
-        }
-        if let Some(bed) = self.beds.get(vnode) {
-            bed.park_timeout(self.rt, Duration::from_millis(LOAD_REST_MS));
+    fn before(&self, _vnode: usize, place: usize) {
+        if place % LOAD_LOOK_RECORDS == 0 && self.is_behind.load(SeqCst) {
+            Parker::new().park_timeout(self.rt, Duration::from_millis(LOAD_REST_MS));
         }
     }
 }
 
-/// Has each of three vnodes take over its records, side by side, while the follower follows them: so what they take for it is let go again
-/// as they go on. They wait where they are too far ahead of it. What is left to be followed behind them is followed as the store serves.
-/// The passes come back.
+/// Has the vnodes of a cluster take over their records, side by side, while the follower follows them: so what they take for it is let go
+/// again as they go on. They wait where they are too far ahead of it. What is left to be followed behind them is followed as the store
+/// serves.
 pub fn begin<B: Room + Spot + Send + Sync, R: Threads + Wait + Sync>(
     host: &Host<'_, R>,
     cluster: &Cluster<B>,
-    passes: Passes<B>,
+    loaders: Vec<Loader<B>>,
     files: &[KeptFile],
     lookout: &mut Lookout<B>,
-) -> Result<Passes<B>, Unloaded>
-    requires vnodes { cluster.now.vnodes ≡ 3 }
+) -> Result<Vec<Loader<B>>, Unloaded>
+    requires vnodes { vec_len loaders ≤ cluster.now.vnodes }
     requires spot { cluster.now.first ≡ B.first }
-    ensures loaded { IfOk result (λ back. HaveLoaded passes back cluster.now.first files.now) }
+    ensures loaded { IfOk result (λ back. HaveLoaded cluster.now.first 0 files.now (map (λ l. l.pass) loaders.items) (map (λ l. l.pass) back.items)) }
+    ensures count { IfOk result (λ back. vec_len back ≡ vec_len loaders) }
 {
-    let (alloc, rt) = (host.alloc, host.rt);
-    let load = Load::new(rt);
+    let load = Load::new(host.rt);
     let both = &load;
+    let loading = Loading {
+        alloc: host.alloc,
+        rt: host.rt,
+        cluster,
+        throttle: both,
+    };
     // Who follows is handed the new thread, or waits for its turn where none can be made: it ends only once the others have.
     let ((), loaded) = thread::join(
-        rt,
+        host.rt,
         || -> ()
             requires { cluster.now.first ≡ B.first }
         { follow_load(cluster, lookout, both) },
-        || -> Result<Passes<B>, Unloaded>
-            requires { cluster.now.vnodes ≡ 3 }
-            ensures { IfOk result (λ back. HaveLoaded passes back cluster.entry.now.first files.entry.now) }
+        || -> Result<Vec<Loader<B>>, Unloaded>
+            requires { vec_len loaders ≤ loading.cluster.now.vnodes }
+            ensures { IfOk result (λ back. HaveLoaded loading.entry.cluster.now.first 0 files.entry.now (map (λ l. l.pass) loaders.items) (map (λ l. l.pass) back.items) × (vec_len back ≡ vec_len loaders)) }
         {
-            let loaded = load_all(alloc, rt, cluster, passes, files, both);
+            let loaded = take_over(&loading, loaders, files);
             both.is_over.store(true, SeqCst);
             loaded
         },
     );
     loaded
+}
+
+/// Has vnodes take over their records.
+fn take_over<B: Room + Send + Sync, R: Threads + Wait + Sync, T: Throttle + Sync>(
+    loading: &Loading<'_, B, R, T>,
+    mut loaders: Vec<Loader<B>>,
+    files: &[KeptFile],
+) -> Result<Vec<Loader<B>>, Unloaded>
+    requires vnodes { vec_len loaders ≤ loading.now.cluster.now.vnodes }
+    ensures loaded { IfOk result (λ back. HaveLoaded loading.now.cluster.now.first 0 files.now (map (λ l. l.pass) loaders.items) (map (λ l. l.pass) back.items)) }
+    ensures count { IfOk result (λ back. vec_len back ≡ vec_len loaders) }
+{
+    loading.load_all(&mut loaders, files)?;
+    Ok(loaders)
 }
 
 /// Follows what vnodes take over, until all of them have.

@@ -10,19 +10,18 @@ ghost use Rattle.dvvstore.specs.Visits.{AreBegun, AreStarts, HaveBegun, begun};
 use crate::crew;
 use crate::crew::{Crew, Lookout, Seat, Served};
 use crate::host::Host;
-use crate::limits::VNODES;
 use crate::saver::{Saver, Shelf};
 use crate::session::Left;
 use audit_cluster::Spot;
 use bpf_helpers::Sigs;
-use cluster::{Cluster, Room};
+use cluster::{Cluster, Pass, Room};
 use hook_registry::{HookChanges, Hooks};
 use kept_file::KeptFile;
 use kept_fold::fold_files;
 use kept_folder::{Folder, HOOKS, Held, Settings};
 use kept_hooks::{BegunHooks, ReplayFault, Requests};
 use kept_restore::laws::loads_stand;
-use kept_restore::{Passes, Unloaded, fronts_of};
+use kept_restore::{Unloaded, fronts_of};
 use server_accept::{Bound, Lobby, Setup, open, tell_listening};
 use std::alloc::{AllocError, Global};
 use std::io;
@@ -83,7 +82,7 @@ impl From<io::Error> for Unbegun {
 #[derive(Drop)]
 pub struct Begun<B: Room> {
     /// The passes by which that was brought to its vnodes, which make snapshots later.
-    pub spares: Passes<B>,
+    pub spares: Vec<Pass<B>>,
     /// So many of the first entries of each vnode were there then.
     pub fronts: Vec<usize>,
     /// The identifier of the first vnode.
@@ -126,12 +125,12 @@ pub struct Stay<'a, N, F> {
 }
 
 impl<N, F: Drop> Stay<'_, N, F> {
-    /// How many of the first entries of each vnode were there before: none are named where no folder keeps the store.
-    pub fn fronts(&self, alloc: Global) -> Result<Vec<usize>, AllocError>
-        ensures { IfOk result (λ fronts. fronts.items ≡ fronts_for self.now.folder self.now.held.files.items) }
+    /// How many of the first entries of each of so many vnodes were there before: none are named where no folder keeps the store.
+    pub fn fronts(&self, alloc: Global, vnodes: usize) -> Result<Vec<usize>, AllocError>
+        ensures { IfOk result (λ fronts. fronts.items ≡ fronts_for self.now.folder vnodes self.now.held.files.items) }
     {
         match &self.folder {
-            Some(_) => fronts_of(alloc, &self.held.files, VNODES as usize),
+            Some(_) => fronts_of(alloc, &self.held.files, vnodes),
             None => Ok(Vec::new(alloc)),
         }
     }
@@ -155,6 +154,7 @@ impl<N, F: Drop> Stay<'_, N, F> {
             settings,
             hooks,
             files,
+            logs,
         } = held;
         let files = fold_files(alloc, files, number)?;
         let held = Held {
@@ -162,6 +162,7 @@ impl<N, F: Drop> Stay<'_, N, F> {
             settings,
             hooks,
             files,
+            logs,
         };
         Ok(Stay {
             folder,
@@ -192,7 +193,7 @@ pub fn live<
     H: Hooks + HookChanges + Send + Drop,
     R: Threads + Wait + Sync,
     N: Net<Listener = TcpListener, Stream = TcpStream>,
-    F: Folder + Copy + Send,
+    F: Folder + Copy + Send + Sync,
     O: Write,
 >(
     host: &Host<'_, R>,
@@ -201,14 +202,15 @@ pub fn live<
     out: &mut O,
 ) -> Result<Left, Unbegun>
     requires some { 0 < vec_len staffed.seats }
-    requires all { staffed.cluster.passes ≤ vec_len staffed.seats + 4 }
+    requires all { staffed.cluster.passes ≤ vec_len staffed.seats + vec_len staffed.begun.spares + 1 }
+    requires few { vec_len staffed.begun.spares ≤ 16 }
     requires spot { staffed.cluster.first ≡ B.first }
-    requires three { staffed.cluster.vnodes ≡ 3 }
-    requires begun { HasBegunWith stay.folder staffed.cluster.first stay.held.files.items staffed.begun }
-    requires numbers { staffed.begun.first + 3 ≤ 2 ^ 32 }
+    requires begun { HasBegunWith stay.folder staffed.cluster.first staffed.cluster.vnodes stay.held.files.items staffed.begun }
+    requires spares { vec_len staffed.begun.spares ≡ staffed.cluster.vnodes }
+    requires numbers { staffed.begun.first + 16 ≤ 2 ^ 32 }
     ensures told { Tells stay.entry.door result (O.contents out.old) (O.contents out.new) }
-    ensures kept { Leaves stay.entry.folder staffed.cluster.first stay.entry.held.files.items result }
-    ensures served { LeavesServed H.finds H.names H.takes (AreStarts H.takes (hooks_for stay.entry.folder stay.entry.held.hooks.items) (map (λ s. begun staffed.cluster s.pass s.hooking.hooks s.hooking.table.listed s.placement) staffed.seats.items)) result }
+    ensures kept { Leaves stay.entry.folder staffed.cluster.first staffed.cluster.vnodes stay.entry.held.files.items result }
+    ensures served { LeavesServed H.finds H.names H.takes staffed.cluster.vnodes (AreStarts H.takes (hooks_for stay.entry.folder stay.entry.held.hooks.items) (map (λ s. begun staffed.cluster s.pass s.hooking.hooks s.hooking.table.listed s.placement) staffed.seats.items)) result }
 {
     let Stay {
         folder,
@@ -279,7 +281,7 @@ fn saver_of<F>(
     first: u32,
     err: Stderr,
 ) -> Option<Saver<F>>
-    requires { first + 3 ≤ 2 ^ 32 }
+    requires { first + 16 ≤ 2 ^ 32 }
 {
     match folder {
         Some(folder) => Some(Saver {

@@ -1,10 +1,10 @@
 //! The limits of the server: how much may wait, how often is looked, and how long is rested.
 
-/// How many vnodes there are.
-pub(crate) const VNODES: u32 = 3;
+/// The most vnodes that a store has: as many as a folder has files of records.
+pub(crate) const MAX_VNODES: u32 = 16;
 
-/// So many passes there are besides those of workers: the follower's, and one for each vnode, by which that takes over what it begins with.
-pub(crate) const SPARE_PASSES: usize = 4;
+/// So many vnodes there are for each worker, where nothing else says how many: so workers seldom wait for one.
+pub(crate) const VNODES_PER_WORKER: u32 = 2;
 
 /// How many numbers of starts there are. Where nothing is kept there is one for each second, and then again from the first: for 194 days.
 pub(crate) const START_NUMBERS: u64 = 16_777_216;

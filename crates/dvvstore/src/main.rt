@@ -11,6 +11,7 @@ mod network;
 mod reasons;
 mod saver;
 mod session;
+mod spread;
 mod start;
 mod system_folder;
 #[cfg(test)]

@@ -1,19 +1,20 @@
 //! The network of the system.
 
-ghost use Rattle.std.specs.Prelude.{◌≡◌, ◌≢◌, ◌<◌, ◌≤◌, ◌++◌, ◌∷◌, [], ℕ, List, IfOk, IfErr, OnOk};
+ghost use Rattle.std.specs.Prelude.{◌≡◌, ◌≢◌, ◌<◌, ◌≤◌, ◌++◌, ◌∷◌, [], ℕ, List, IfOk, IfErr, OnOk, map, vec_len};
 ghost use Rattle.std.specs.Io.KnownBytes.{Appends};
-ghost use Rattle.commands.specs.Command.{HasRefused};
+ghost use Rattle.commands.specs.Command.{HasKept, HasRefused};
 ghost use Rattle.kept_file.specs.Placed.{ArePlaced};
 ghost use Rattle.dvvstore.specs.Crews.{by_digest};
-ghost use Rattle.dvvstore.specs.Keeping.{ArePutOf, HasEnded, IsRefusal, Keeps};
+ghost use Rattle.dvvstore.specs.Keeping.{ArePutOf, HasEnded, IsRefusal, IsUnkept, Keeps};
+ghost use Rattle.dvvstore.specs.Over.{KeptOver, ended_says};
 
 use crate::crew::Served;
 use crate::host::Host;
 use crate::keeper::{Address, Door, Stay, Unbegun};
-use crate::limits::VNODES;
 use crate::reasons::bind;
 use crate::session;
 use crate::session::{Left, Making};
+use crate::spread::{Spread, copies_of};
 use crate::start::{minute_at, start_at};
 use crate::system_folder::{SystemFolder, take};
 use audit_cluster::{Closed, Verdict};
@@ -22,14 +23,13 @@ use bpf_helpers::Table;
 use commands::server::{Ended, Post, Says, Server, Site, Unserved};
 use dvv::VNODES_PER_NUMBER;
 use kept_file::placed;
-use kept_folder::{Folder, Held, OpenFault, Opened, Unreplaced, keep_all, keep_number};
+use kept_folder::{Folder, Held, Logs, OpenFault, Opened, Unreplaced, keep_all, keep_number};
 use kept_hooks::Requests;
-use ring::{MAX_COPIES, Placement};
 use server_accept::{Bound, Setup, open, tell_listening};
 use std::alloc::{AllocError, Global};
 use std::fmt::Display;
 use std::io;
-use std::io::{ErrorKind, Stderr, Stdin, Write};
+use std::io::{Eprint as _, ErrorKind, Stderr, Stdin, Write};
 use std::net::{Net, TcpListener, TcpStream};
 use std::random::RandomSource;
 use std::rt::Clock;
@@ -148,7 +148,7 @@ impl<
         let making = Making {
             first: self.begin() * VNODES_PER_NUMBER,
             seed,
-            copies: copies_of(post.copies),
+            spread: Spread::usual(more.len(), copies_of(post.copies)),
         };
         let stay = Stay {
             folder: None::<SystemFolder<'_>>,
@@ -181,55 +181,97 @@ impl<
         // Before a number is taken: starts at an address that can't be had use none up.
         let bound = bind(self.rt, site.addr, self.err)?;
         let mut folder = lock.folder();
-        let opened = match kept_folder::open(alloc, self.rt, &mut folder, self.minute()) {
-            Ok(opened) => opened,
-            Err(OpenFault::NoMemory) => return Err(Unserved::NoMemory),
-            Err(why) => return Err(refused(alloc, out, &why)),
-        };
-        let Opened { number, held } = opened;
-        let copies = copies_of(held.settings.copies);
-        let Ok(held) = held_for(alloc, copies, held) else {
-            return Err(Unserved::NoMemory);
-        };
-        let making = Making {
-            first: number * VNODES_PER_NUMBER,
+        let keeping = Keeping {
+            minute: self.minute(),
             seed,
-            copies,
-        };
-        let stay = Stay {
-            folder: Some(folder),
-            held,
-            door: Door::Closed(Address {
+            tables: more,
+            address: Address {
                 rt: self.rt,
                 bound,
                 count: site.count,
                 input: self.input,
-            }),
+            },
             err: self.err,
         };
-        match session::live(&self.host(alloc), making, more, stay, out) {
-            Ok(Left::Kept(served)) => finish(alloc, &mut folder, number, served, out),
-            Ok(Left::Lost) => lose(alloc, out),
-            Err(why) => Err(unserved(alloc, out, why)),
-        }
+        keep_over(&self.host(alloc), &mut folder, keeping, out)
     }
 }
 
-/// How many copies of each key there are where so many are asked for: as many, one where none is, and three where more are.
-fn copies_of(asked: u32) -> u32
-    ensures some { 0 < result }
-    ensures few { result ≤ 3 }
-    ensures right { 0 < asked → asked ≤ 3 → result ≡ asked }
-{
-    asked.max(1).min(MAX_COPIES)
+/// A start of a store that a folder keeps.
+#[derive(Drop)]
+struct Keeping<'a, N> {
+    /// How many minutes of 2026 and of later years are over.
+    minute: u32,
+    /// What the hashes of keys begin with.
+    seed: Seed,
+    /// The helpers that the hooks of each worker may call.
+    tables: Vec<Table>,
+    /// Where the store is to answer.
+    address: Address<'a, N>,
+    /// Where what can't wait is told.
+    err: Stderr,
 }
 
-/// What a folder holds, with the records of each vnode where there are so many copies of each key: the folder may have been written where
-/// there were more, or fewer. What else it holds stays.
-fn held_for(alloc: Global, copies: u32, held: Held) -> Result<Held, AllocError>
-    requires some { 0 < copies }
-    requires few { copies ≤ 3 }
-    ensures placed { IfOk result (λ now. ArePlaced (by_digest copies) held.files.items now.files.items) }
+/// Has a store begin with what a folder holds, wherever that placed it, answer connections until it is stopped, and be written into the
+/// folder again. Where all is kept, each file of it is of what was served, and what was served has begun with what the folder held.
+fn keep_over<
+    R: Threads + Wait + Sync,
+    N: Net<Listener = TcpListener, Stream = TcpStream>,
+    F: Folder + Copy + Send + Sync,
+    O: Write,
+>(
+    host: &Host<'_, R>,
+    folder: &mut F,
+    keeping: Keeping<'_, N>,
+    out: &mut O,
+) -> Result<Ended<Said>, Unserved>
+    requires some { 0 < vec_len keeping.tables }
+    requires few { vec_len keeping.tables ≤ 16 }
+    ensures told { IfOk result (HasKept (O.contents out.old) (O.contents out.new)) }
+    ensures refused { IfErr result (λ why. why ≡ Unserved.Refused → HasRefused (O.contents out.old) (O.contents out.new)) }
+    ensures untold { IfErr result (λ why. why ≡ Unserved.NoMemory → O.contents out.new ≡ O.contents out.old) }
+    ensures kept { IfOk result (KeptOver F.finds F.does keeping.entry.minute (map (λ t. t.listed) keeping.entry.tables.items) folder.old folder.new) }
+{
+    let Keeping {
+        minute,
+        seed,
+        tables,
+        address,
+        err,
+    } = keeping;
+    let opened = match kept_folder::open(host.alloc, host.rt, folder, minute) {
+        Ok(opened) => opened,
+        Err(OpenFault::NoMemory) => return Err(Unserved::NoMemory),
+        Err(why) => return Err(refused(host.alloc, out, &why)),
+    };
+    let Opened { number, held } = opened;
+    tell_cut(err, held.logs);
+    let spread = Spread::among(held.vnodes(), tables.len(), held.settings.copies);
+    let Ok(held) = held_for(host.alloc, spread, held) else {
+        return Err(Unserved::NoMemory);
+    };
+    let making = Making {
+        first: number * VNODES_PER_NUMBER,
+        seed,
+        spread,
+    };
+    let stay = Stay {
+        folder: Some(*folder),
+        held,
+        door: Door::Closed(address),
+        err,
+    };
+    match session::live(host, making, tables, stay, out) {
+        Ok(Left::Kept(served)) => finish(host.alloc, folder, number, served, out),
+        Ok(Left::Lost) => lose(host.alloc, out),
+        Err(why) => Err(unserved(host.alloc, out, why)),
+    }
+}
+
+/// What a folder holds, with the records of each vnode where keys are spread so: the folder may have been written where they were spread
+/// otherwise. What else it holds stays.
+fn held_for(alloc: Global, spread: Spread, held: Held) -> Result<Held, AllocError>
+    ensures placed { IfOk result (λ now. ArePlaced (by_digest spread.vnodes spread.copies) held.files.items now.files.items) }
     ensures settings { IfOk result (λ now. now.settings ≡ held.settings) }
     ensures hooks { IfOk result (λ now. now.hooks ≡ held.hooks) }
 {
@@ -238,14 +280,25 @@ fn held_for(alloc: Global, copies: u32, held: Held) -> Result<Held, AllocError>
         settings,
         hooks,
         files,
+        logs,
     } = held;
-    let files = placed(alloc, &Placement::by_digest(VNODES, copies), &files)?;
+    let files = placed(alloc, &spread.placement(), &files)?;
     Ok(Held {
         last,
         settings,
         hooks,
         files,
+        logs,
     })
+}
+
+/// Tells how many bytes of the newest log are passed over, if any are. What can't be told is lost.
+fn tell_cut(err: Stderr, logs: Option<Logs>) {
+    if let Some(Logs { last, torn, .. }) = logs {
+        if torn > 0 {
+            let _ = err.eprintln(format_args!("log-{last}: {torn} bytes cut"));
+        }
+    }
 }
 
 /// What is said of the journals of a store that was served.
@@ -293,6 +346,7 @@ fn unserved<O: Write>(alloc: Global, out: &mut O, why: Unbegun) -> Unserved
 fn lose<O: Write>(alloc: Global, out: &mut O) -> Result<Ended<Said>, Unserved>
     ensures told { IfOk result (HasEnded (O.contents out.old) (O.contents out.new)) }
     ensures why { IfErr result (λ why. why ≡ Unserved.Unreadable) }
+    ensures unkept { IfOk result (λ ended. IsUnkept ended) }
 {
     tell(alloc, out, "not kept", &"E1")?;
     Ok(Ended::Unkept(Said(Verdict::no_memory())))
@@ -309,6 +363,7 @@ pub(crate) fn finish<F: Folder, O: Write>(
 ) -> Result<Ended<Said>, Unserved>
     ensures told { IfOk result (HasEnded (O.contents out.old) (O.contents out.new)) }
     ensures why { IfErr result (λ why. why ≡ Unserved.Unreadable) }
+    ensures says { IfOk result (λ ended. ended_says ended ≡ served.closed.said) }
     ensures put { IfOk result (Keeps F.finds F.does number served folder.old folder.new) }
 {
     let Served { closed, requests } = served;

@@ -1,7 +1,7 @@
 //! Snapshots of a store that is kept, beside its workers.
 
-ghost use Rattle.std.specs.Prelude.{◌≡◌, ◌<◌, ◌≤◌, ◌+◌, ◌/◌, ◌-◌, ◌^◌, ◌&&◌, ◌||◌, IfOk, false, max, nat_eq, nat_le, not};
-ghost use Rattle.dvvstore.specs.Asides.{AllRead, IsKeptBy, Reads};
+ghost use Rattle.std.specs.Prelude.{◌≡◌, ◌<◌, ◌≤◌, ◌+◌, ◌/◌, ◌-◌, ◌^◌, ◌&&◌, ◌||◌, ℕ, List, [], Ok, IfOk, OnOk, false, map, max, min, nat_eq, nat_le, not, sum, vec_capacity, vec_len};
+ghost use Rattle.dvvstore.specs.Asides.{AllRead, AreAllKept, AreListed, IsKept, IsKeptBy, IsRestKept, Reads};
 
 mod stride;
 
@@ -12,12 +12,15 @@ use cluster::{Cluster, Pass, Room};
 use cluster_peers::ClusterPeers;
 use dvv::VNODES_PER_NUMBER;
 use kept_file::{SnapshotFault, Subject};
-use kept_folder::{Folder, Unreplaced, WriteFault, keep_number, keep_requests, keep_served};
-use kept_restore::{Passes, join_three};
+use kept_folder::{
+    FileFault, Folder, HOOKS, Unreplaced, WriteFault, keep_number, keep_requests, keep_served,
+};
+use kept_restore::processors;
 use server_accept::Timer;
 use std::alloc::Global;
 use std::io::{Eprint, Stderr};
 use std::sync::Wait;
+use std::thread;
 use std::thread::Threads;
 use std::time::Duration;
 
@@ -70,15 +73,6 @@ impl Schedule {
     }
 }
 
-/// What came of reading vnodes by a pass.
-#[derive(Drop)]
-struct Saved<B: Room> {
-    /// The pass.
-    pass: Pass<B>,
-    /// How many keys the vnodes have, or which file isn't replaced.
-    came: Result<usize, Unreplaced>,
-}
-
 /// Who makes snapshots of a store.
 #[derive(Drop)]
 pub struct Saver<F> {
@@ -88,20 +82,23 @@ pub struct Saver<F> {
     pub every: u32,
     /// Where snapshots are told.
     pub err: Stderr,
-    ghost numbers: { shelf.first + 3 ≤ 2 ^ 32 },
+    ghost numbers: { shelf.first + 16 ≤ 2 ^ 32 },
 }
 
-impl<F: Folder + Copy + Send> Saver<F> {
+impl<F: Folder + Copy + Send + Sync> Saver<F> {
     /// Makes snapshots until all workers have ended, by calls on the vnodes through passes: what each is told comes behind what it was told
     /// before. One that is under way when the server is told to stop is given up, and another begins. The passes come back.
+    #[tactic(auto, using(crate::proofs::Growing::all_read_same))]
     pub fn run<B: Room + Send + Sync, R: Threads + Wait + Sync>(
         &mut self,
         rt: &R,
         cluster: &Cluster<B>,
-        mut spares: Passes<B>,
+        mut spares: Vec<Pass<B>>,
         signs: &Signs<'_>,
-    ) -> Passes<B>
-        ensures read { AllRead cluster.now.first spares result }
+    ) -> Vec<Pass<B>>
+        requires few { vec_len spares ≤ 16 }
+        ensures read { AllRead cluster.now.first spares.items result.items }
+        ensures count { vec_len result ≡ vec_len spares }
     {
         let mut timer = Timer::new();
         let mut schedule = Schedule::new(self.every, timer.now());
@@ -122,38 +119,44 @@ impl<F: Folder + Copy + Send> Saver<F> {
         spares
     }
 
-    /// Makes a snapshot, and tells it, or why some of it is not kept. One that is given up is not told. Answers how many keys were read.
+    /// Makes a snapshot, and tells it, or why some of it is not kept. One that is given up is not told. Answers how many keys were read: none
+    /// where not all is kept.
     fn save<B: Room + Send + Sync, R: Threads + Wait + Sync>(
         &mut self,
         rt: &R,
         cluster: &Cluster<B>,
-        spares: Passes<B>,
+        spares: Vec<Pass<B>>,
         signs: &Signs<'_>,
-    ) -> (Passes<B>, usize)
-        ensures read { AllRead cluster.now.first spares result.0 }
+    ) -> (Vec<Pass<B>>, usize)
+        requires few { vec_len spares ≤ 16 }
+        ensures read { AllRead cluster.now.first spares.items result.0.items }
+        ensures count { vec_len result.0 ≡ vec_len spares }
+        ensures kept { 0 < result.1 → IsKept F.finds F.does self.old.shelf.first self.old.shelf.folder spares.items result.0.items self.new.shelf.folder result.1 }
     {
         let mut timer = Timer::new();
         let begin = timer.now();
         signs.note_written(false);
         let (spares, came) = self.write(rt, cluster, spares, signs);
-        let keys = match came {
-            Ok(keys) => {
-                let millis = timer.now().saturating_sub(begin);
-                // What can't be told is lost.
-                let _ = self
-                    .err
-                    .eprintln(format_args!("snapshot {keys} keys {millis} ms"));
-                keys
-            }
-            Err(unreplaced) => {
-                signs.note_written(true);
-                if !is_given_up(&unreplaced) {
-                    let _ = self.err.eprintln(format_args!("not kept {unreplaced}"));
-                }
-                0
-            }
+        if came.is_err() {
+            signs.note_written(true);
+        }
+        self.tell(&came, timer.now().saturating_sub(begin));
+        match came {
+            Ok(keys) => (spares, keys),
+            Err(_) => (spares, 0),
+        }
+    }
+
+    /// Tells a snapshot that took so many milliseconds, or why some of it is not kept. One that is given up is not told. What can't be told is
+    /// lost.
+    fn tell(&self, came: &Result<usize, Unreplaced>, millis: u64) {
+        let _ = match came {
+            Ok(keys) => self
+                .err
+                .eprintln(format_args!("snapshot {keys} keys {millis} ms")),
+            Err(unreplaced) if is_given_up(unreplaced) => Ok(()),
+            Err(unreplaced) => self.err.eprintln(format_args!("not kept {unreplaced}")),
         };
-        (spares, keys)
     }
 
     /// Replaces the files of a folder by what vnodes hold that serve, and by the requests that install and bind their hooks. Answers how
@@ -163,71 +166,69 @@ impl<F: Folder + Copy + Send> Saver<F> {
         &mut self,
         rt: &R,
         cluster: &Cluster<B>,
-        spares: Passes<B>,
+        spares: Vec<Pass<B>>,
         signs: &Signs<'_>,
-    ) -> (Passes<B>, Result<usize, Unreplaced>)
-        ensures read { AllRead cluster.now.first spares result.0 }
+    ) -> (Vec<Pass<B>>, Result<usize, Unreplaced>)
+        requires few { vec_len spares ≤ 16 }
+        ensures read { AllRead cluster.now.first spares.items result.0.items }
+        ensures count { vec_len result.0 ≡ vec_len spares }
+        ensures put { IfOk result.1 (IsKept F.finds F.does self.old.shelf.first self.old.shelf.folder spares.items result.0.items self.new.shelf.folder) }
     {
         let (spares, came) = self.write_vnodes(rt, cluster, spares, signs);
-        (
-            spares,
-            came.and_then(|keys| self.write_rest(rt, signs, keys)),
-        )
+        (spares, self.write_rest(rt, signs, came))
     }
 
-    /// Replaces the file of the requests that install and bind hooks, and has the number of the start be there, behind the files of vnodes
-    /// that have so many keys.
+    /// Replaces the file of the requests that install and bind hooks, and has the number of the start be there, where the files of vnodes were
+    /// replaced, of which came so many keys.
     fn write_rest<R: Wait>(
         &mut self,
         rt: &R,
         signs: &Signs<'_>,
-        keys: usize,
-    ) -> Result<usize, Unreplaced> {
+        came: Result<usize, Unreplaced>,
+    ) -> Result<usize, Unreplaced>
+        ensures put { IfOk result (λ keys. (came ≡ Ok keys) × IsRestKept F.finds F.does (self.old.shelf.first / 256) self.old.shelf.folder self.new.shelf.folder) }
+    {
+        let keys = came?;
         let number = self.shelf.number();
-        let Shelf { alloc, folder, .. } = &mut self.shelf;
-        let requests = signs.requests(rt).unwrap_or(None);
-        keep_requests(*alloc, folder, requests.as_deref())?;
-        keep_number(*alloc, folder, number)?;
+        self.shelf.write_requests(rt, signs)?;
+        keep_number(self.shelf.alloc, &mut self.shelf.folder, number)?;
         Ok(keys)
     }
 
-    /// Replaces the files of the vnodes, side by side: each is read on a thread of its own, or one after the other where none can be made.
+    /// Replaces the files of the vnodes, side by side, on as many threads as there are processors: each is read by a pass of its own.
+    /// Answers how many keys they have together.
     fn write_vnodes<B: Room + Send + Sync, R: Threads + Wait + Sync>(
         &self,
         rt: &R,
         cluster: &Cluster<B>,
-        spares: Passes<B>,
+        spares: Vec<Pass<B>>,
         signs: &Signs<'_>,
-    ) -> (Passes<B>, Result<usize, Unreplaced>)
-        ensures read { AllRead cluster.now.first spares result.0 }
+    ) -> (Vec<Pass<B>>, Result<usize, Unreplaced>)
+        requires few { vec_len spares ≤ 16 }
+        ensures read { AllRead cluster.now.first spares.items result.0.items }
+        ensures count { vec_len result.0 ≡ vec_len spares }
+        ensures put { IfOk result.1 (AreAllKept F.does self.now.shelf.folder self.now.shelf.first spares.items result.0.items) }
     {
-        let Passes {
-            first,
-            second,
-            third,
-        } = spares;
-        let one = self.shelf.side(first, 0);
-        let two = self.shelf.side(second, 1);
-        let three = self.shelf.side(third, 2);
-        let (one, two, three) = join_three(
-            rt,
-            || -> Saved<B>
-                ensures { Reads (cluster.entry.now.first + one.index) one.pass result.pass }
-            { one.write(rt, cluster, signs) },
-            || -> Saved<B>
-                ensures { Reads (cluster.entry.now.first + two.index) two.pass result.pass }
-            { two.write(rt, cluster, signs) },
-            || -> Saved<B>
-                ensures { Reads (cluster.entry.now.first + three.index) three.pass result.pass }
-            { three.write(rt, cluster, signs) },
-        );
-        let came = all_keys(one.came, all_keys(two.came, three.came));
-        let spares = Passes {
-            first: one.pass,
-            second: two.pass,
-            third: three.pass,
+        let shelf = &self.shelf;
+        let (Ok(sides), Ok(back)) = (
+            Vec::with_capacity(shelf.alloc, spares.len()),
+            Vec::with_capacity(shelf.alloc, spares.len()),
+        ) else {
+            return (spares, Err(no_memory()));
         };
-        (spares, came)
+        let mut sides = sides_of(shelf.alloc, rt, cluster, spares, sides);
+        thread::for_each_mut(
+            rt,
+            &mut sides,
+            processors(rt),
+            &|index: usize, side: &mut Side<'_, B, R>|
+                requires { (index < 16) × (shelf.now.first + 16 ≤ 2 ^ 32) }
+                ensures { Reads (side.old.peers.size.first + index) side.old.peers.pass side.new.peers.pass
+                    × IfOk side.new.came (IsKeptBy F.does shelf.entry.now.folder (shelf.entry.now.first + index) index side.old.peers.pass side.new.peers.pass) }
+            { shelf.write_side(rt, side, index, signs) },
+        );
+        let came = all_keys(&sides);
+        (passes_of(sides, back), came)
     }
 }
 
@@ -252,23 +253,35 @@ impl<F> Shelf<F> {
 }
 
 impl<F: Folder + Copy> Shelf<F> {
-    /// Who reads the vnode with an index, by a pass.
-    fn side<B: Room>(&self, pass: Pass<B>, index: usize) -> Side<B, F>
-        requires numbers { self.now.first + 3 ≤ 2 ^ 32 }
-        requires inside { index < 3 }
-        ensures shelf { result.shelf ≡ self.now }
-        ensures pass { result.pass ≡ pass }
-        ensures index { result.index ≡ index }
+    /// Replaces the file of the vnode with an index, as it is read by one of the sides.
+    fn write_side<B: Room, R: Wait>(
+        &self,
+        rt: &R,
+        side: &mut Side<'_, B, R>,
+        index: usize,
+        signs: &Signs<'_>,
+    )
+        requires numbers { self.now.first + 16 ≤ 2 ^ 32 }
+        requires inside { index < 16 }
+        ensures read { Reads (side.old.peers.size.first + index) side.old.peers.pass side.new.peers.pass }
+        ensures put { IfOk side.new.came (IsKeptBy F.does self.now.folder (self.now.first + index) index side.old.peers.pass side.new.peers.pass) }
     {
-        Side {
-            shelf: *self,
-            pass,
-            index,
-        }
+        let mut shelf = *self;
+        side.came = shelf.write_vnode(rt, &mut side.peers, signs, index);
     }
 }
 
 impl<F: Folder> Shelf<F> {
+    /// Replaces the file of the requests that install and bind hooks. It stays where one of them is lacking, or memory for them.
+    fn write_requests<R: Wait>(&mut self, rt: &R, signs: &Signs<'_>) -> Result<(), Unreplaced>
+        ensures put { OnOk result (AreListed F.does self.old.folder self.new.folder) }
+    {
+        match signs.requests(rt) {
+            Ok(Some(requests)) => keep_requests(self.alloc, &mut self.folder, Some(&requests)),
+            _ => keep_requests(self.alloc, &mut self.folder, None),
+        }
+    }
+
     /// Replaces the file of a vnode that serves. Answers how many keys it had.
     fn write_vnode<B: Room, R: Wait>(
         &mut self,
@@ -277,8 +290,8 @@ impl<F: Folder> Shelf<F> {
         signs: &Signs<'_>,
         index: usize,
     ) -> Result<usize, Unreplaced>
-        requires numbers { self.old.first + 3 ≤ 2 ^ 32 }
-        requires inside { index < 3 }
+        requires numbers { self.old.first + 16 ≤ 2 ^ 32 }
+        requires inside { index < 16 }
         ensures read { Reads (peers.old.size.first + index) peers.old.pass peers.new.pass }
         ensures put { IfOk result (IsKeptBy F.does self.old.folder (self.old.first + index) index peers.old.pass peers.new.pass) }
     {
@@ -291,45 +304,67 @@ impl<F: Folder> Shelf<F> {
     }
 }
 
-/// Who reads one of the vnodes.
+/// How one of the vnodes is read, and what came of that.
 #[derive(Drop)]
-struct Side<B: Room, F> {
-    /// Where its file stands.
-    shelf: Shelf<F>,
-    /// What it is called with.
-    pass: Pass<B>,
-    /// Its index.
-    index: usize,
-    ghost numbers: { shelf.first + 3 ≤ 2 ^ 32 },
-    ghost inside: { index < 3 },
+struct Side<'a, B: Room, R: Wait> {
+    /// The vnodes, by a pass.
+    peers: ClusterPeers<'a, B, R>,
+    /// How many keys the vnode had, or why its file isn't replaced.
+    came: Result<usize, Unreplaced>,
 }
 
-impl<B: Room, F: Folder + Copy> Side<B, F> {
-    /// Replaces the file of this vnode.
-    fn write<R: Wait>(self, rt: &R, cluster: &Cluster<B>, signs: &Signs<'_>) -> Saved<B>
-        ensures read { Reads (cluster.now.first + self.index) self.pass result.pass }
-        ensures put { IfOk result.came (IsKeptBy F.does self.shelf.folder (self.shelf.first + self.index) self.index self.pass result.pass) }
-    {
-        let Side {
-            mut shelf,
-            pass,
-            index,
-        } = self;
-        let mut peers = ClusterPeers::new(shelf.alloc, rt, cluster, pass);
-        let came = shelf.write_vnode(rt, &mut peers, signs, index);
-        Saved {
-            pass: peers.into_pass(),
-            came,
-        }
+/// A side for each pass, in a list that has room for them.
+fn sides_of<'a, B: Room, R: Wait>(
+    alloc: Global,
+    rt: &'a R,
+    cluster: &'a Cluster<B>,
+    passes: Vec<Pass<B>>,
+    mut sides: Vec<Side<'a, B, R>>,
+) -> Vec<Side<'a, B, R>>
+    requires none { sides.items ≡ [] }
+    requires room { vec_len passes ≤ vec_capacity sides }
+    ensures each { map (λ s. s.peers) result.items ≡ map (λ p. record { size = cluster.now; pass = p; failures = 0 }) passes.items }
+    ensures count { vec_len result ≡ vec_len passes }
+{
+    for pass in passes {
+        sides.push_reserved(Side {
+            peers: ClusterPeers::new(alloc, rt, cluster, pass),
+            came: Ok(0),
+        });
     }
+    sides
 }
 
-/// How many keys vnodes have together, or which file isn't replaced.
-fn all_keys(
-    some: Result<usize, Unreplaced>,
-    others: Result<usize, Unreplaced>,
-) -> Result<usize, Unreplaced> {
-    Ok(some?.saturating_add(others?))
+/// The passes of sides, in a list that has room for them.
+fn passes_of<B: Room, R: Wait>(sides: Vec<Side<'_, B, R>>, mut passes: Vec<Pass<B>>) -> Vec<Pass<B>>
+    requires none { passes.items ≡ [] }
+    requires room { vec_len sides ≤ vec_capacity passes }
+    ensures each { result.items ≡ map (λ s. s.peers.pass) sides.entry.items }
+    ensures count { vec_len result ≡ vec_len sides.entry }
+{
+    for side in sides {
+        passes.push_reserved(side.peers.into_pass());
+    }
+    passes
+}
+
+/// How many keys vnodes have together, or the first of the files that aren't replaced.
+fn all_keys<B: Room, R: Wait>(sides: &[Side<'_, B, R>]) -> Result<usize, Unreplaced>
+    ensures { IfOk result (λ keys. (counts : List ℕ) × (map (λ s. s.came) sides.now ≡ map Ok counts) × (keys ≡ min (sum counts) (2 ^ 64 - 1))) }
+{
+    let mut keys = 0usize;
+    for side in sides {
+        keys = keys.saturating_add(side.came?);
+    }
+    Ok(keys)
+}
+
+/// That memory was refused before a file was begun.
+fn no_memory() -> Unreplaced {
+    Unreplaced {
+        name: HOOKS,
+        fault: WriteFault::File(FileFault::NoMemory),
+    }
 }
 
 /// Whether a snapshot was given up.

@@ -1,6 +1,6 @@
 //! The store of several workers, from its opening to what is left of it.
 
-ghost use Rattle.std.specs.Prelude.{◌≡◌, ◌+◌, ◌<◌, ◌≤◌, ◌^◌, [], All, IfOk, map, reverse, vec_len};
+ghost use Rattle.std.specs.Prelude.{◌≡◌, ◌+◌, ◌<◌, ◌≤◌, ◌^◌, [], All, IfOk, OnOk, map, reverse, vec_len};
 ghost use Rattle.hook_sharing.specs.Lists.{list_of};
 ghost use Rattle.cluster_stamps.specs.Rule.{newcomer};
 ghost use Rattle.cluster_vnode.specs.Calls.{pass_view};
@@ -13,7 +13,7 @@ ghost use Rattle.dvvstore.specs.Visits.{BeginOver};
 use crate::crew::{Lookout, Seat, Served};
 use crate::host::Host;
 use crate::keeper::{Begun, Staffed, Stay, Unbegun};
-use crate::limits::{SPARE_PASSES, VNODES};
+use crate::spread::Spread;
 use crate::{beginning, keeper};
 use audit_cluster::{Spot, Start, Watch};
 use bpf_helpers::Table;
@@ -23,7 +23,7 @@ use dvv::VNODES_PER_NUMBER;
 use hook_sharing::{Ground, HookReader, Installer, Opening, Rack, WorkerHooks, open};
 use kept_folder::Folder;
 use kept_hooks::Requests;
-use kept_restore::Passes;
+use kept_restore::Loader;
 use quorum::Hooking;
 use ring::Placement;
 use shared_prefix::Naming;
@@ -43,11 +43,9 @@ pub struct Making {
     pub first: u32,
     /// What the hashes of their keys begin with.
     pub seed: Seed,
-    /// How many copies of each key are wanted, 1 to 3.
-    pub copies: u32,
-    ghost numbers: { first + 3 ≤ 2 ^ 32 },
-    ghost some: { 0 < copies },
-    ghost few: { copies ≤ 3 },
+    /// How many of them there are, and how many copies of each key.
+    pub spread: Spread,
+    ghost numbers: { first + 16 ≤ 2 ^ 32 },
 }
 
 /// What is left of a store.
@@ -67,7 +65,7 @@ struct Undrawn {
     card: Card,
 }
 
-/// Three vnodes that have begun.
+/// Vnodes that have begun.
 #[derive(Drop)]
 struct Vnodes<B: Room + Spot> {
     cluster: Cluster<B>,
@@ -79,12 +77,12 @@ struct Vnodes<B: Room + Spot> {
     begun: Begun<B>,
 }
 
-/// The parts of a store that has begun: its vnodes, a table for each worker, who has a pass, and how many copies of each key are wanted.
+/// The parts of a store that has begun: its vnodes, a table for each worker, who has a pass, and how keys are spread.
 #[derive(Drop)]
 struct Parts<B: Room + Spot> {
     vnodes: Vnodes<B>,
     tables: Vec<Table>,
-    copies: u32,
+    spread: Spread,
 }
 
 /// Where the hooks of workers come from: who changes them, and a reader of them for each.
@@ -102,7 +100,7 @@ struct Hooked<'a, J: Naming, T: Rack<J> + Drop, R: Wait + Drop> {
 pub fn live<
     R: Threads + Wait + Sync,
     N: Net<Listener = TcpListener, Stream = TcpStream>,
-    F: Folder + Copy + Send,
+    F: Folder + Copy + Send + Sync,
     O: Write,
 >(
     host: &Host<'_, R>,
@@ -114,8 +112,8 @@ pub fn live<
     requires some { 0 < vec_len tables }
     requires few { vec_len tables ≤ 16 }
     ensures told { Tells stay.entry.door result (O.contents out.old) (O.contents out.new) }
-    ensures kept { LeavesFolded stay.entry.folder making.first stay.entry.held.files.items result }
-    ensures served { LeavesServed Finds Names Takes (BeginOver Takes (record { first = making.first; vnodes = 3; passes = vec_len tables + 4 }) making.copies (map (λ t. t.listed) tables.items) (hooks_for stay.entry.folder stay.entry.held.hooks.items)) result }
+    ensures kept { LeavesFolded stay.entry.folder making.first making.spread.vnodes stay.entry.held.files.items result }
+    ensures served { LeavesServed Finds Names Takes making.spread.vnodes (BeginOver Takes (record { first = making.first; vnodes = making.spread.vnodes; passes = vec_len tables + making.spread.vnodes + 1 }) making.spread.copies (map (λ t. t.listed) tables.items) (hooks_for stay.entry.folder stay.entry.held.hooks.items)) result }
 {
     let stay = stay.folded(host.alloc, making.first / VNODES_PER_NUMBER)?;
     over_files(host, making, tables, stay, out)
@@ -125,7 +123,7 @@ pub fn live<
 fn over_files<
     R: Threads + Wait + Sync,
     N: Net<Listener = TcpListener, Stream = TcpStream>,
-    F: Folder + Copy + Send,
+    F: Folder + Copy + Send + Sync,
     O: Write,
 >(
     host: &Host<'_, R>,
@@ -137,13 +135,13 @@ fn over_files<
     requires some { 0 < vec_len tables }
     requires few { vec_len tables ≤ 16 }
     ensures told { Tells stay.entry.door result (O.contents out.old) (O.contents out.new) }
-    ensures kept { Leaves stay.entry.folder making.first stay.entry.held.files.items result }
-    ensures served { LeavesServed Finds Names Takes (BeginOver Takes (record { first = making.first; vnodes = 3; passes = vec_len tables + 4 }) making.copies (map (λ t. t.listed) tables.items) (hooks_for stay.entry.folder stay.entry.held.hooks.items)) result }
+    ensures kept { Leaves stay.entry.folder making.first making.spread.vnodes stay.entry.held.files.items result }
+    ensures served { LeavesServed Finds Names Takes making.spread.vnodes (BeginOver Takes (record { first = making.first; vnodes = making.spread.vnodes; passes = vec_len tables + making.spread.vnodes + 1 }) making.spread.copies (map (λ t. t.listed) tables.items) (hooks_for stay.entry.folder stay.entry.held.hooks.items)) result }
 {
     let size = Size {
         first: making.first,
-        vnodes: VNODES as usize,
-        passes: tables.len() + SPARE_PASSES,
+        vnodes: making.spread.vnodes as usize,
+        passes: passes_for(tables.len(), making.spread),
     };
     match Stamps::new(host.alloc, &size) {
         Ok((stamps, card)) => {
@@ -163,7 +161,7 @@ fn over_stamps<
     B: Room + Spot + Send + Sync,
     R: Threads + Wait + Sync,
     N: Net<Listener = TcpListener, Stream = TcpStream>,
-    F: Folder + Copy + Send,
+    F: Folder + Copy + Send + Sync,
     O: Write,
 >(
     host: &Host<'_, R>,
@@ -175,19 +173,19 @@ fn over_stamps<
     requires some { 0 < vec_len tables }
     requires few { vec_len tables ≤ 16 }
     requires table { (undrawn.stamps.table.shared.table_id ≡ B.table) × (undrawn.card.table_id ≡ B.table) }
-    requires size { undrawn.stamps.table.shared.key ≡ record { first = undrawn.making.first; vnodes = 3; passes = vec_len tables + 4 } }
+    requires size { undrawn.stamps.table.shared.key ≡ record { first = undrawn.making.first; vnodes = undrawn.making.spread.vnodes; passes = vec_len tables + undrawn.making.spread.vnodes + 1 } }
     requires spot { undrawn.making.first ≡ B.first }
     requires card { undrawn.card.me ≡ (newcomer undrawn.stamps.table.shared.key, []) }
     ensures told { Tells stay.entry.door result (O.contents out.old) (O.contents out.new) }
-    ensures kept { Leaves stay.entry.folder undrawn.making.first stay.entry.held.files.items result }
-    ensures served { LeavesServed Finds Names Takes (BeginOver Takes (record { first = undrawn.making.first; vnodes = 3; passes = vec_len tables + 4 }) undrawn.making.copies (map (λ t. t.listed) tables.items) (hooks_for stay.entry.folder stay.entry.held.hooks.items)) result }
+    ensures kept { Leaves stay.entry.folder undrawn.making.first undrawn.making.spread.vnodes stay.entry.held.files.items result }
+    ensures served { LeavesServed Finds Names Takes undrawn.making.spread.vnodes (BeginOver Takes (record { first = undrawn.making.first; vnodes = undrawn.making.spread.vnodes; passes = vec_len tables + undrawn.making.spread.vnodes + 1 }) undrawn.making.spread.copies (map (λ t. t.listed) tables.items) (hooks_for stay.entry.folder stay.entry.held.hooks.items)) result }
 {
-    let Making { seed, copies, .. } = undrawn.making;
+    let Making { seed, spread, .. } = undrawn.making;
     let vnodes = begin(host, undrawn, tables.len(), &stay)?;
     let parts = Parts {
         vnodes,
         tables,
-        copies,
+        spread,
     };
     let opening = Opening::seeded(seed.build_hasher());
     over_cluster::<B, Brand, R, N, F, O>(host, parts, opening, stay, out)
@@ -203,15 +201,16 @@ fn begin<B: Room + Spot + Send + Sync, R: Threads + Wait + Sync, N, F: Copy>(
 ) -> Result<Vnodes<B>, Unbegun>
     requires few { workers ≤ 16 }
     requires table { (undrawn.stamps.table.shared.table_id ≡ B.table) × (undrawn.card.table_id ≡ B.table) }
-    requires size { undrawn.stamps.table.shared.key ≡ record { first = undrawn.making.first; vnodes = 3; passes = workers + 4 } }
+    requires size { undrawn.stamps.table.shared.key ≡ record { first = undrawn.making.first; vnodes = undrawn.making.spread.vnodes; passes = workers + undrawn.making.spread.vnodes + 1 } }
     requires spot { undrawn.making.first ≡ B.first }
     requires card { undrawn.card.me ≡ (newcomer undrawn.stamps.table.shared.key, []) }
     ensures first { IfOk result (λ vnodes. vnodes.cluster.first ≡ undrawn.making.first) }
-    ensures three { IfOk result (λ vnodes. vnodes.cluster.vnodes ≡ 3) }
-    ensures all { IfOk result (λ vnodes. vnodes.cluster.passes ≡ workers + 4) }
+    ensures vnodes { IfOk result (λ vnodes. vnodes.cluster.vnodes ≡ undrawn.making.spread.vnodes) }
+    ensures all { IfOk result (λ vnodes. vnodes.cluster.passes ≡ workers + undrawn.making.spread.vnodes + 1) }
+    ensures spares { IfOk result (λ vnodes. vec_len vnodes.begun.spares ≡ undrawn.making.spread.vnodes) }
     ensures passes { IfOk result (λ vnodes. vec_len vnodes.passes ≡ workers) }
-    ensures begun { IfOk result (λ vnodes. HasBegunWith stay.now.folder undrawn.making.first stay.now.held.files.items vnodes.begun) }
-    ensures numbers { IfOk result (λ vnodes. vnodes.begun.first + 3 ≤ 2 ^ 32) }
+    ensures begun { IfOk result (λ vnodes. HasBegunWith stay.now.folder undrawn.making.first undrawn.making.spread.vnodes stay.now.held.files.items vnodes.begun) }
+    ensures numbers { IfOk result (λ vnodes. vnodes.begun.first + 16 ≤ 2 ^ 32) }
 {
     let alloc = host.alloc;
     let Undrawn {
@@ -219,16 +218,20 @@ fn begin<B: Room + Spot + Send + Sync, R: Threads + Wait + Sync, N, F: Copy>(
         stamps,
         card,
     } = undrawn;
-    let Making { first, seed, .. } = making;
-    let vnodes = VNODES as usize;
+    let Making {
+        first,
+        seed,
+        spread,
+    } = making;
+    let vnodes = spread.vnodes as usize;
     let size = Size {
         first,
         vnodes,
-        passes: workers + SPARE_PASSES,
+        passes: passes_for(workers, spread),
     };
     let (cluster, mut passes) = Cluster::<B>::open(alloc, seed, stamps, card, &size)?;
-    let spares = spares_of(&mut passes);
-    let fronts = stay.fronts(alloc)?;
+    let loaders = loaders_of(alloc, &mut passes, vnodes)?;
+    let fronts = stay.fronts(alloc, vnodes)?;
     let start = Start {
         seed,
         fronts: fronts.as_slice().to_vec(alloc)?,
@@ -238,9 +241,9 @@ fn begin<B: Room + Spot + Send + Sync, R: Threads + Wait + Sync, N, F: Copy>(
         requests: Requests::none(alloc),
         err: stay.err,
     };
-    let spares = beginning::begin(host, &cluster, spares, &stay.held.files, &mut lookout)?;
+    let loaders = beginning::begin(host, &cluster, loaders, &stay.held.files, &mut lookout)?;
     let begun = Begun {
-        spares,
+        spares: passes_of(alloc, loaders)?,
         fronts,
         first,
     };
@@ -252,21 +255,46 @@ fn begin<B: Room + Spot + Send + Sync, R: Threads + Wait + Sync, N, F: Copy>(
     })
 }
 
-/// The last three passes, one for each vnode.
-fn spares_of<B: Room>(passes: &mut Vec<Pass<B>>) -> Passes<B>
-    requires some { 3 ≤ vec_len passes.old }
-    requires fresh { All (λ p. p ≡ pass_view 0 []) passes.old.items }
-    ensures left { vec_len passes.new + 3 ≡ vec_len passes.old }
-    ensures fresh { All (λ p. p ≡ pass_view 0 []) passes.new.items }
+/// How many passes there are: one for each worker, one for each vnode, by which that takes over what it begins with, and the follower's.
+fn passes_for(workers: usize, spread: Spread) -> usize
+    requires { workers ≤ 16 }
+    ensures { result ≡ workers + spread.vnodes + 1 }
 {
-    let (Some(first), Some(second), Some(third)) = (passes.pop(), passes.pop(), passes.pop()) else {
-        unreachable!();
-    };
-    Passes {
-        first,
-        second,
-        third,
+    workers + spread.vnodes as usize + 1
+}
+
+/// A loader for each of so many vnodes, with the last of some passes.
+fn loaders_of<B: Room>(
+    alloc: Global,
+    passes: &mut Vec<Pass<B>>,
+    vnodes: usize,
+) -> Result<Vec<Loader<B>>, AllocError>
+    requires some { vnodes ≤ vec_len passes.old }
+    requires fresh { All (λ p. p ≡ pass_view 0 []) passes.old.items }
+    ensures left { OnOk result (vec_len passes.new + vnodes ≡ vec_len passes.old) }
+    ensures fresh { OnOk result (All (λ p. p ≡ pass_view 0 []) passes.new.items) }
+    ensures count { IfOk result (λ loaders. vec_len loaders ≡ vnodes) }
+{
+    let mut loaders = Vec::new(alloc);
+    for _taken in 0..vnodes {
+        let Some(pass) = passes.pop() else {
+            unreachable!();
+        };
+        loaders.push(Loader::new(pass))?;
     }
+    Ok(loaders)
+}
+
+/// The passes of loaders.
+fn passes_of<B: Room>(alloc: Global, loaders: Vec<Loader<B>>) -> Result<Vec<Pass<B>>, AllocError>
+    ensures same { IfOk result (λ passes. passes.items ≡ map (λ l. l.pass) loaders.items) }
+    ensures count { IfOk result (λ passes. vec_len passes ≡ vec_len loaders) }
+{
+    let mut passes = Vec::new(alloc);
+    for loader in loaders {
+        passes.push(loader.pass)?;
+    }
+    Ok(passes)
 }
 
 /// The same, over the parts of a store that has begun, and the empty list of changes of hooks.
@@ -275,7 +303,7 @@ fn over_cluster<
     J: Naming + Send + Sync,
     R: Threads + Wait + Sync,
     N: Net<Listener = TcpListener, Stream = TcpStream>,
-    F: Folder + Copy + Send,
+    F: Folder + Copy + Send + Sync,
     O: Write,
 >(
     host: &Host<'_, R>,
@@ -286,18 +314,17 @@ fn over_cluster<
 ) -> Result<Left, Unbegun>
     requires list { list_of opening ≡ J.book }
     requires some { 0 < vec_len parts.tables }
-    requires copied { 0 < parts.copies }
-    requires most { parts.copies ≤ 3 }
     requires few { vec_len parts.tables ≤ 16 }
     requires each { vec_len parts.vnodes.passes ≡ vec_len parts.tables }
-    requires all { parts.vnodes.cluster.passes ≡ vec_len parts.tables + 4 }
+    requires all { parts.vnodes.cluster.passes ≡ vec_len parts.tables + parts.vnodes.cluster.vnodes + 1 }
+    requires spares { vec_len parts.vnodes.begun.spares ≡ parts.vnodes.cluster.vnodes }
     requires spot { parts.vnodes.cluster.first ≡ B.first }
-    requires three { parts.vnodes.cluster.vnodes ≡ 3 }
-    requires begun { HasBegunWith stay.folder parts.vnodes.cluster.first stay.held.files.items parts.vnodes.begun }
-    requires numbers { parts.vnodes.begun.first + 3 ≤ 2 ^ 32 }
+    requires vnodes { parts.vnodes.cluster.vnodes ≡ parts.spread.vnodes }
+    requires begun { HasBegunWith stay.folder parts.vnodes.cluster.first parts.vnodes.cluster.vnodes stay.held.files.items parts.vnodes.begun }
+    requires numbers { parts.vnodes.begun.first + 16 ≤ 2 ^ 32 }
     ensures told { Tells stay.entry.door result (O.contents out.old) (O.contents out.new) }
-    ensures kept { Leaves stay.entry.folder parts.vnodes.cluster.first stay.entry.held.files.items result }
-    ensures served { LeavesServed Finds Names Takes (BeginOver Takes parts.vnodes.cluster parts.copies (map (λ t. t.listed) parts.tables.items) (hooks_for stay.entry.folder stay.entry.held.hooks.items)) result }
+    ensures kept { Leaves stay.entry.folder parts.vnodes.cluster.first parts.vnodes.cluster.vnodes stay.entry.held.files.items result }
+    ensures served { LeavesServed Finds Names Takes parts.vnodes.cluster.vnodes (BeginOver Takes parts.vnodes.cluster parts.spread.copies (map (λ t. t.listed) parts.tables.items) (hooks_for stay.entry.folder stay.entry.held.hooks.items)) result }
 {
     over_ground(host, parts, opening.named::<J>(host.alloc), stay, out)
 }
@@ -309,7 +336,7 @@ fn over_ground<
     T: Rack<J> + Drop + Send + Sync,
     R: Threads + Wait + Sync,
     N: Net<Listener = TcpListener, Stream = TcpStream>,
-    F: Folder + Copy + Send,
+    F: Folder + Copy + Send + Sync,
     O: Write,
 >(
     host: &Host<'_, R>,
@@ -320,18 +347,17 @@ fn over_ground<
 ) -> Result<Left, Unbegun>
     requires ground { (ground.front ≡ []) × (T.state ground.first ≡ []) × (T.state ground.second ≡ []) }
     requires some { 0 < vec_len parts.tables }
-    requires copied { 0 < parts.copies }
-    requires most { parts.copies ≤ 3 }
     requires few { vec_len parts.tables ≤ 16 }
     requires each { vec_len parts.vnodes.passes ≡ vec_len parts.tables }
-    requires all { parts.vnodes.cluster.passes ≡ vec_len parts.tables + 4 }
+    requires all { parts.vnodes.cluster.passes ≡ vec_len parts.tables + parts.vnodes.cluster.vnodes + 1 }
+    requires spares { vec_len parts.vnodes.begun.spares ≡ parts.vnodes.cluster.vnodes }
     requires spot { parts.vnodes.cluster.first ≡ B.first }
-    requires three { parts.vnodes.cluster.vnodes ≡ 3 }
-    requires begun { HasBegunWith stay.folder parts.vnodes.cluster.first stay.held.files.items parts.vnodes.begun }
-    requires numbers { parts.vnodes.begun.first + 3 ≤ 2 ^ 32 }
+    requires vnodes { parts.vnodes.cluster.vnodes ≡ parts.spread.vnodes }
+    requires begun { HasBegunWith stay.folder parts.vnodes.cluster.first parts.vnodes.cluster.vnodes stay.held.files.items parts.vnodes.begun }
+    requires numbers { parts.vnodes.begun.first + 16 ≤ 2 ^ 32 }
     ensures told { Tells stay.entry.door result (O.contents out.old) (O.contents out.new) }
-    ensures kept { Leaves stay.entry.folder parts.vnodes.cluster.first stay.entry.held.files.items result }
-    ensures served { LeavesServed Finds Names Takes (BeginOver Takes parts.vnodes.cluster parts.copies (map (λ t. t.listed) parts.tables.items) (hooks_for stay.entry.folder stay.entry.held.hooks.items)) result }
+    ensures kept { Leaves stay.entry.folder parts.vnodes.cluster.first parts.vnodes.cluster.vnodes stay.entry.held.files.items result }
+    ensures served { LeavesServed Finds Names Takes parts.vnodes.cluster.vnodes (BeginOver Takes parts.vnodes.cluster parts.spread.copies (map (λ t. t.listed) parts.tables.items) (hooks_for stay.entry.folder stay.entry.held.hooks.items)) result }
 {
     match open(host.alloc, host.rt, ground, parts.tables.len()) {
         Ok((installer, readers)) => {
@@ -354,7 +380,7 @@ fn over_hooks<
     T: Rack<J> + Drop + Send + Sync,
     R: Threads + Wait + Sync,
     N: Net<Listener = TcpListener, Stream = TcpStream>,
-    F: Folder + Copy + Send,
+    F: Folder + Copy + Send + Sync,
     O: Write,
 >(
     host: &Host<'r, R>,
@@ -365,22 +391,21 @@ fn over_hooks<
 ) -> Result<Left, Unbegun>
     requires readers { vec_len hooked.readers ≡ vec_len parts.tables }
     requires some { 0 < vec_len parts.tables }
-    requires copied { 0 < parts.copies }
-    requires most { parts.copies ≤ 3 }
     requires each { vec_len parts.vnodes.passes ≡ vec_len parts.tables }
-    requires all { parts.vnodes.cluster.passes ≡ vec_len parts.tables + 4 }
+    requires all { parts.vnodes.cluster.passes ≡ vec_len parts.tables + parts.vnodes.cluster.vnodes + 1 }
+    requires spares { vec_len parts.vnodes.begun.spares ≡ parts.vnodes.cluster.vnodes }
     requires spot { parts.vnodes.cluster.first ≡ B.first }
-    requires three { parts.vnodes.cluster.vnodes ≡ 3 }
-    requires begun { HasBegunWith stay.folder parts.vnodes.cluster.first stay.held.files.items parts.vnodes.begun }
-    requires numbers { parts.vnodes.begun.first + 3 ≤ 2 ^ 32 }
+    requires vnodes { parts.vnodes.cluster.vnodes ≡ parts.spread.vnodes }
+    requires begun { HasBegunWith stay.folder parts.vnodes.cluster.first parts.vnodes.cluster.vnodes stay.held.files.items parts.vnodes.begun }
+    requires numbers { parts.vnodes.begun.first + 16 ≤ 2 ^ 32 }
     ensures told { Tells stay.entry.door result (O.contents out.old) (O.contents out.new) }
-    ensures kept { Leaves stay.entry.folder parts.vnodes.cluster.first stay.entry.held.files.items result }
-    ensures served { LeavesServed Finds Names Takes (BeginOver Takes parts.vnodes.cluster parts.copies (map (λ t. t.listed) parts.tables.items) (hooks_for stay.entry.folder stay.entry.held.hooks.items)) result }
+    ensures kept { Leaves stay.entry.folder parts.vnodes.cluster.first parts.vnodes.cluster.vnodes stay.entry.held.files.items result }
+    ensures served { LeavesServed Finds Names Takes parts.vnodes.cluster.vnodes (BeginOver Takes parts.vnodes.cluster parts.spread.copies (map (λ t. t.listed) parts.tables.items) (hooks_for stay.entry.folder stay.entry.held.hooks.items)) result }
 {
     let Parts {
         vnodes,
         tables,
-        copies,
+        spread,
     } = parts;
     let Vnodes {
         cluster,
@@ -388,7 +413,7 @@ fn over_hooks<
         lookout,
         begun,
     } = vnodes;
-    let seats = seats_of(host.alloc, passes, tables, hooked, copies)?;
+    let seats = seats_of(host.alloc, passes, tables, hooked, spread)?;
     let staffed = Staffed {
         cluster,
         seats,
@@ -399,23 +424,21 @@ fn over_hooks<
 }
 
 /// A seat for each pass, with a table and a reader of hooks of its own: the last of those that are left. Keys stand where their digests
-/// say, at three vnodes, with so many copies.
+/// say, as they are spread.
 fn seats_of<'a, B: Room, J: Naming, T: Rack<J> + Drop, R: Wait + Drop>(
     alloc: Global,
     passes: Vec<Pass<B>>,
     mut tables: Vec<Table>,
     hooked: Hooked<'a, J, T, R>,
-    copies: u32,
+    spread: Spread,
 ) -> Result<Vec<Seat<B, WorkerHooks<'a, J, T, R>>>, AllocError>
-    requires some { 0 < copies }
-    requires few { copies ≤ 3 }
     requires each { vec_len passes ≡ vec_len tables }
     requires readers { vec_len hooked.readers ≡ vec_len tables }
     ensures count { IfOk result (λ seats. vec_len seats ≡ vec_len passes) }
     ensures passes { IfOk result (λ seats. map (λ s. s.pass) seats.items ≡ passes.items) }
     ensures tables { IfOk result (λ seats. map (λ s. s.hooking.table) seats.items ≡ reverse tables.items) }
     ensures readers { IfOk result (λ seats. map (λ s. s.hooking.hooks) seats.items ≡ reverse hooked.entry.readers.items) }
-    ensures placed { IfOk result (λ seats. AreAllPlaced copies (map (λ s. s.placement) seats.items)) }
+    ensures placed { IfOk result (λ seats. AreAllPlaced spread.vnodes spread.copies (map (λ s. s.placement) seats.items)) }
 {
     let Hooked {
         installer,
@@ -431,7 +454,7 @@ fn seats_of<'a, B: Room, J: Naming, T: Rack<J> + Drop, R: Wait + Drop>(
         seats.push_reserved(Seat {
             pass,
             hooking: Hooking::new(alloc, hooks, table),
-            placement: Placement::by_digest(VNODES, copies),
+            placement: spread.placement(),
             place: tables.len(),
         });
     }

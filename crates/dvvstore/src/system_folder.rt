@@ -137,6 +137,19 @@ impl<'a> SystemFolder<'a> {
         Ok(format!(in self.alloc; "{path}/{name}")?)
     }
 
+    // The names of the files, but those that are no text: nobody can ask for these.
+    fn listed(&self, alloc: Global) -> io::Result<Vec<String>> {
+        let mut names = Vec::new(alloc);
+        for entry in fs::read_dir(self.rt, self.path)? {
+            match entry {
+                Ok(entry) => names.push(String::from_str(alloc, entry.file_name())?)?,
+                Err(error) if error.kind() == ErrorKind::InvalidFilename => {}
+                Err(error) => return Err(error),
+            }
+        }
+        Ok(names)
+    }
+
     // Looks whether the folder is still there.
     fn look(&self) -> Result<(), FileFault> {
         let path = self.path_of(LOCK)?;
@@ -167,6 +180,10 @@ impl Folder for SystemFolder<'_> {
         let mut bytes = Vec::new(alloc);
         done(file.read_to_end(&mut bytes))?;
         Ok(Some(bytes))
+    }
+
+    fn names(&self, alloc: Global) -> Result<Vec<String>, FileFault> {
+        done(self.listed(alloc))
     }
 
     fn create(&mut self, name: &str) -> Result<fs::File, FileFault> {

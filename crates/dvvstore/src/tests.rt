@@ -10,6 +10,7 @@ use crate::host::Host;
 use crate::keeper::{Door, Stay, Unbegun};
 use crate::session;
 use crate::session::{Left, Making};
+use crate::spread::Spread;
 use crate::system_folder::SystemFolder;
 use audit_faults::{Followed, WatchFault};
 use bpf_helpers::Table;
@@ -199,7 +200,10 @@ fn two_workers(rt: HostRuntime) -> Result<(), Fail> {
                 let making = Making {
                     first: FIRST,
                     seed: Seed::fixed(),
-                    copies: 3,
+                    spread: Spread {
+                        vnodes: 3,
+                        copies: 3,
+                    },
                 };
                 let stay = Stay {
                     folder: None::<SystemFolder<'_>>,

@@ -7,7 +7,7 @@ use Rattle.std.proofs.lemmas.Grind.{flat_map-append}
 use Rattle.dvv.specs.declared.Dot.{Dot}
 use Rattle.record_codec.specs.declared.record.Record.{Record}
 use Rattle.kept_file.specs.declared.file.KeptFile.{KeptFile}
-use Rattle.kept_file.specs.Numbers.{IsNamed, above, after, all_ids, ids_in, ids_of}
+use Rattle.kept_file.specs.Numbers.{IsNamed, above, after, all_ids, ids_in, ids_of, source_ids}
 
 pub above_append : (least : ℕ) (xs ys : List ℕ) → above least (xs ++ ys) ≡ above (above least xs) ys
 above_append least [] ys = refl
@@ -66,10 +66,11 @@ pub record_more : (least : ℕ) (xs : List Record) (i : ℕ) (r : Record) (now m
 record_more least xs i r now mid new entries lt is so step steps same =
     steps ∙ ap (λ (n : ℕ). above n (map (λ (entry : Dot). entry.vnode) entries)) step ∙ ap (λ (l : List Dot). above (above now (r.from ∷ [])) (map (λ (entry : Dot). entry.vnode) l)) same ∙ above_more ids_of least xs i r now lt is so
 
-pub file_more : (least : ℕ) (xs : List KeptFile) (i : ℕ) (f : KeptFile) (now mid new : ℕ) (records : List Record) → i < length xs → f ≡ get_or xs i f → now ≡ above least (flat_map ids_in (take i xs)) → mid ≡ above now (f.from ∷ [])
+pub file_more : (least : ℕ) (xs : List KeptFile) (i : ℕ) (f : KeptFile) (now mid new : ℕ) (records : List Record) → i < length xs → f ≡ get_or xs i f → now ≡ above least (flat_map ids_in (take i xs)) → mid ≡ above now (source_ids f.from)
     → new ≡ above mid (flat_map ids_of records) → records ≡ f.records.items → new ≡ above least (flat_map ids_in (take (i + 1) xs))
 file_more least xs i f now mid new records lt is so step steps same =
-    steps ∙ ap (λ (n : ℕ). above n (flat_map ids_of records)) step ∙ ap (λ (l : List Record). above (above now (f.from ∷ [])) (flat_map ids_of l)) same ∙ above_more ids_in least xs i f now lt is so
+    steps ∙ ap (λ (n : ℕ). above n (flat_map ids_of records)) step ∙ ap (λ (l : List Record). above (above now (source_ids f.from)) (flat_map ids_of l)) same
+    ∙ sym (above_append now (source_ids f.from) (flat_map ids_of f.records.items)) ∙ above_more ids_in least xs i f now lt is so
 
 module _ (last : Option ℕ) (least : ℕ) (files : List KeptFile) (next : ℕ) (is : next ≡ above (max least (after last)) (all_ids files)) where
   pub named_below : (number : ℕ) → IsNamed last files number → number < next

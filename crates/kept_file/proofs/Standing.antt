@@ -11,7 +11,9 @@ use Rattle.key_state.specs.Limits.{IsKey}
 use Rattle.record_codec.specs.declared.record.Record.{Record}
 use Rattle.ring.specs.Places.{PlacementView}
 use Rattle.kept_file.specs.declared.file.KeptFile.{KeptFile}
-use Rattle.kept_file.specs.Files.{records_at}
+use Rattle.kept_file.specs.declared.file.Source.{Source}
+use Rattle.kept_file.specs.declared.file.Source.TheVariants.{Vnode}
+use Rattle.kept_file.specs.Files.{is_of, records_at}
 use Rattle.kept_file.specs.Placed.{AreTheirs, CameOf, HasAll, HasThose, IsAddedOrSeen, IsAmong, IsFilled, IsPlacedAt, IsVacant, stands}
 
 none_in : {X : Type 0} (x : X) → Contains [] x → ⊥
@@ -128,23 +130,28 @@ none_made placement files = record {
 }
 
 -- the first of files is that of an index
-at_first : (file : KeptFile) (more : List KeptFile) (index : ℕ) → file.from ≡ index → index < 256 → records_at (file ∷ more) index ≡ file.records.items
-at_first file more index is few = chosen ((file.from % 256) == index) (let own : file.from % 256 ≡ index = ap (λ n. n % 256) is ∙ mod-eq_of_lt few in grind (arith, nat_tests))
+at_first : (file : KeptFile) (more : List KeptFile) (index : ℕ) → file.from ≡ Vnode index → index < 256 → records_at (file ∷ more) index ≡ file.records.items
+at_first file more index is few = chosen (is_of file.from index) (ap (λ (s : Source). is_of s index) is ∙ own_is)
   where
+    own_is : ((index % 256) == index) ≡ true
+    own_is = let own : index % 256 ≡ index = mod-eq_of_lt few in grind (arith, nat_tests)
+
     chosen : (b : Bool) → b ≡ true → cond b file.records.items (records_at more index) ≡ file.records.items
     chosen true e = refl
     chosen false e = absurd cc
 
 -- it is another's
-past_first : (file : KeptFile) (more : List KeptFile) (index : ℕ) → file.from < index → index < 256 → records_at (file ∷ more) index ≡ records_at more index
-past_first file more index lt few =
-    chosen ((file.from % 256) == index) (let below : file.from < 256 = omega (arith, lt, few) in let own : file.from % 256 ≡ file.from = mod-eq_of_lt below in grind (arith, nat_tests))
+past_first : (file : KeptFile) (more : List KeptFile) (own index : ℕ) → file.from ≡ Vnode own → own < index → index < 256 → records_at (file ∷ more) index ≡ records_at more index
+past_first file more own index is lt few = chosen (is_of file.from index) (ap (λ (s : Source). is_of s index) is ∙ no_other)
   where
+    no_other : ((own % 256) == index) ≡ false
+    no_other = let below : own < 256 = omega (arith, lt, few) in let same : own % 256 ≡ own = mod-eq_of_lt below in grind (arith, nat_tests)
+
     chosen : (b : Bool) → b ≡ false → cond b file.records.items (records_at more index) ≡ records_at more index
     chosen true e = absurd cc
     chosen false e = refl
 
-pub one_made : (placement : PlacementView) (files made : List KeptFile) (count : ℕ) (file : KeptFile) → count < 256 → file.from ≡ count → AreMade placement files made count
+pub one_made : (placement : PlacementView) (files made : List KeptFile) (count : ℕ) (file : KeptFile) → count < 256 → file.from ≡ Vnode count → AreMade placement files made count
     → IsPlacedAt placement files count file.records.items → AreMade placement files (made ++ file ∷ []) (count + 1)
 one_made placement files made count file few is so placed = record {
   each = λ index lt. each_now index (below index lt);
@@ -152,7 +159,7 @@ one_made placement files made count file few is so placed = record {
   vacant = λ index le lt more.
       ap (λ (l : List KeptFile). records_at l index) (append_assoc made (file ∷ []) more)
       ∙ so.vacant index (omega (arith, le)) lt (file ∷ more)
-      ∙ past_first file more index (omega (arith, le, is)) lt;
+      ∙ past_first file more count index is (omega (arith, le)) lt;
 }
   where
     below : (index : ℕ) → index < count + 1 → (index < count) ⊎ (index ≡ count)

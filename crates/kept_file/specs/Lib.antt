@@ -2,3 +2,4 @@ pub mod Files
 pub mod Numbers
 pub mod Snapshots
 pub mod Placed
+pub mod Logs

@@ -1,9 +1,10 @@
-//! The file of a vnode's records.
+//! The file of a vnode's records, and the records that end files.
 
 ghost use Rattle.std.specs.Prelude.{◌≡◌, ◌↔◌, IfErr, IfOk, IsTrue};
-ghost use Rattle.kept_file.specs.Files.{IsFileOf, IsUnkept, end_key, end_of};
+ghost use Rattle.kept_file.specs.Files.{IsFileOf, IsUnkept, IsVnodesFile, end_key, end_of, is_of};
 
 use crate::halves::records_beside;
+use dvv::VNODES_PER_NUMBER;
 use key_state::{Key, KeyState};
 use record_codec::{Record, Unread, WireFault};
 use std::alloc::Global;
@@ -13,16 +14,38 @@ use thiserror::Error;
 /// Bucket and key of the record that ends a file.
 pub(crate) const END: &[u8] = b"end";
 
-/// What the file of a vnode's records holds.
+/// Which file records were read from.
+#[derive(Clone, Copy, Debug, PartialEq, Eq)]
+pub enum Source {
+    /// That of the vnode with an identifier, whose lower 8 bits are the vnode's index.
+    Vnode(u32),
+    /// The log with a number. Its records are of any vnode.
+    Log(u64),
+}
+
+impl Source {
+    /// Whether it is the file of the vnode with an index.
+    pub fn is_of(self, index: usize) -> bool
+        ensures { result ≡ is_of self index }
+    {
+        match self {
+            Source::Vnode(id) => (id % VNODES_PER_NUMBER) as usize == index,
+            Source::Log(_) => false,
+        }
+    }
+}
+
+/// The records of a file.
 #[derive(Drop)]
 pub struct KeptFile {
-    /// The identifier of the vnode that the file is of.
-    pub from: u32,
-    /// A record for each key, in the order of keys.
+    /// Which file it is.
+    pub from: Source,
+    /// Of a vnode's file a record for each key, in the order of keys. Of a log its records in the order in which they were written, without
+    /// signs: several may be of one key.
     pub records: Vec<Record>,
 }
 
-/// Why bytes are not the file of a vnode's records.
+/// Why bytes are not a whole file of records.
 #[derive(Clone, Copy, Debug, PartialEq, Eq, Error)]
 pub enum Unkept {
     /// The record at this place, counted from 0, has a fault.
@@ -45,7 +68,24 @@ pub fn read_file<R: Threads>(
     bytes: &[u8],
     others: &[Record],
 ) -> Result<KeptFile, Unkept>
-    ensures kept { IfOk result (λ file. IsFileOf file.from file.records.items bytes.now) }
+    ensures kept { IfOk result (λ file. IsVnodesFile file bytes.now) }
+    ensures unkept { IfErr result (IsUnkept bytes.now) }
+{
+    let (id, records) = read_ended(alloc, rt, bytes, others)?;
+    Ok(KeptFile {
+        from: Source::Vnode(id),
+        records,
+    })
+}
+
+/// The records before the one that ends a file, and the identifier that this one names.
+pub(crate) fn read_ended<R: Threads>(
+    alloc: Global,
+    rt: &R,
+    bytes: &[u8],
+    others: &[Record],
+) -> Result<(u32, Vec<Record>), Unkept>
+    ensures kept { IfOk result (λ x. IsFileOf x.0 x.1.items bytes.now) }
     ensures unkept { IfErr result (IsUnkept bytes.now) }
 {
     let mut records = match records_beside(alloc, rt, bytes, others) {
@@ -59,8 +99,7 @@ pub fn read_file<R: Threads>(
     if !is_end(alloc, &last, records.len()) {
         return Err(Unkept::NoEnd);
     }
-    let from = last.from;
-    Ok(KeptFile { from, records })
+    Ok((last.from, records))
 }
 
 /// Whether a record is the one that ends a file with so many before it.

@@ -3,9 +3,9 @@
 ghost use Rattle.std.specs.Prelude.{◌≡◌, ◌⊎◌, ◌↔◌, ◌<◌, ◌≤◌, ◌+◌, ℕ, IsErr, IfOk, map, max, [], ◌∷◌};
 ghost use Rattle.std.specs.List.{flat_map};
 ghost use Rattle.dvv.specs.declared.Dot.{Dot as OneDot};
-ghost use Rattle.kept_file.specs.Numbers.{IsNamed, above, after, all_ids, ids_of};
+ghost use Rattle.kept_file.specs.Numbers.{IsNamed, above, after, all_ids, ids_of, source_ids};
 
-use crate::file::KeptFile;
+use crate::file::{KeptFile, Source};
 use dvv::{Dot, VNODES_PER_NUMBER};
 use record_codec::Record;
 use thiserror::Error;
@@ -50,9 +50,19 @@ fn above_files(least: u64, files: &[KeptFile]) -> u64
 {
     let mut next = least;
     for file in files {
-        next = above_records(above_id(next, file.from), &file.records);
+        next = above_records(above_source(next, file.from), &file.records);
     }
     next
+}
+
+/// The same of the vnode whose file it is.
+fn above_source(least: u64, from: Source) -> u64
+    ensures exact { result ≡ above least (source_ids from) }
+{
+    match from {
+        Source::Vnode(id) => above_id(least, id),
+        Source::Log(_) => least,
+    }
 }
 
 /// The same of records.

@@ -6,7 +6,7 @@ ghost use Rattle.key_state.specs.Limits.{IsKey};
 ghost use Rattle.kept_file.specs.declared.file.KeptFile.{KeptFile as OneFile};
 ghost use Rattle.kept_file.specs.Placed.{ArePlaced, CameOf, HasAll, HasThose, IsAddedOrSeen, IsAmong, IsPlacedAt, stands};
 
-use crate::file::KeptFile;
+use crate::file::{KeptFile, Source};
 use key_state::Key;
 use record_codec::Record;
 use ring::Placement;
@@ -45,7 +45,7 @@ pub fn placed(
         };
         let records = records_for(alloc, stand, files)?;
         placed.push(KeptFile {
-            from: vnode,
+            from: Source::Vnode(vnode),
             records,
         })?;
     }

@@ -1,5 +1,7 @@
 mod Seals
 mod Reading
+mod Logging
+mod Naming
 mod Putting
 mod Storing
 mod Setting

@@ -1,6 +1,6 @@
 //! The files of a folder.
 
-ghost use Rattle.std.specs.Prelude.{ℕ, List, Option, IfOk, OnOk};
+ghost use Rattle.std.specs.Prelude.{ℕ, List, Option, None, IfOk, OnOk, Contains, map, string_bytes};
 ghost use Rattle.kept_folder.specs.Reads.{bytes_in};
 ghost use Rattle.kept_folder.specs.Steps.{Begun, Forced, NamesForced, Renamed, Step};
 
@@ -42,6 +42,10 @@ pub trait Folder {
     /// The bytes of a file. There may be no file of the name.
     fn read(&self, alloc: Global, name: &str) -> Result<Option<Vec<u8>>, FileFault>
         ensures { IfOk result (λ found. finds self.now name.now (bytes_in found)) };
+
+    /// The names of the files that there are, in any order. Names that are no text are left out: none of them can be asked for.
+    fn names(&self, alloc: Global) -> Result<Vec<String>, FileFault>
+        ensures absent { IfOk result (λ names. (name : List ℕ) → (Contains (map string_bytes names.items) name → ⊥) → finds self.now name None) };
 
     /// Begins a file anew: what stood under the name is gone.
     fn create(&mut self, name: &str) -> Result<Self::File, FileFault>

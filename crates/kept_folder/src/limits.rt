@@ -1,5 +1,8 @@
 //! The limits of a folder's files.
 
+/// The most vnodes that a folder has files of.
+pub(crate) const MAX_VNODES: usize = 16;
+
 /// So many bytes of records are written at a time: a call of the system for many.
 pub(crate) const WRITE_PIECE_BYTES: usize = 65_536;
 

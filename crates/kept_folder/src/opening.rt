@@ -1,21 +1,24 @@
 //! What a start reads of a folder, and the number that it takes.
 
-ghost use Rattle.std.specs.Prelude.{◌≡◌, ◌⊎◌, ◌<◌, ◌≤◌, ◌/◌, ◌+◌, ◌++◌, [], ℕ, List, Option, Some, IfOk, IfSome, MatchOption, OnOk, Contains, codes, max, option_to_list};
+ghost use Rattle.std.specs.Prelude.{◌≡◌, ◌⊎◌, ◌<◌, ◌≤◌, ◌/◌, ◌+◌, ◌++◌, [], ℕ, List, Option, Some, IfOk, IfNone, IfSome, MatchOption, OnOk, Contains, codes, max, option_to_list};
+ghost use Rattle.std.specs.List.{AllByRecursion};
 ghost use Rattle.kept_file.specs.Numbers.{IsNamed, all_ids};
 ghost use Rattle.kept_folder.specs.Numbers.{EarlierText, IsLastIn, number_text};
-ghost use Rattle.kept_folder.specs.Reads.{IsFileIn, IsFoundAt, IsHeldIn, IsReadAt, IsUnsealed, bytes_in};
+ghost use Rattle.kept_folder.specs.Reads.{AreAllFiles, IsFileIn, IsFoundAt, IsHeldIn, IsReadAt, IsUnsealed, IsVnodeIn, bytes_in, most_vnodes, vnodes_in as vnodes_from, vnodes_of};
 ghost use Rattle.kept_folder.specs.Seals.{sealed};
 ghost use Rattle.kept_folder.specs.Settings.{IsSetBy};
 ghost use Rattle.kept_folder.specs.Steps.{IsPut};
 
 use crate::files::{FileFault, Folder};
+use crate::limits::MAX_VNODES;
 use crate::lines::number_in;
-use crate::names::{HOOKS, INCARNATION, NUMBER_WORD, SETTINGS, VNODES, name_of};
+use crate::logs::{LogFault, Logs, add_logs};
+use crate::names::{HOOKS, INCARNATION, NUMBER_WORD, SETTINGS, name_of};
 use crate::sealing::{seal, unseal};
 use crate::settings::{Settings, USUAL, settings_in};
 use crate::writing::{Unreplaced, WriteFault, replace};
 use dvv::VNODES_PER_NUMBER;
-use kept_file::{KeptFile, MAX_NUMBER, Spent, Unkept, next_number, read_file};
+use kept_file::{KeptFile, MAX_NUMBER, Source, Spent, Unkept, next_number, read_file};
 use record_codec::Record;
 use std::alloc::{AllocError, Global};
 use std::thread;
@@ -40,9 +43,11 @@ pub struct Held {
     pub settings: Settings,
     /// The requests that install and bind hooks.
     pub hooks: Vec<u8>,
-    /// The records of each vnode that has a file, with its identifier, whose lower 8 bits are the vnode's index. They stand in the order of
-    /// indexes.
+    /// The records of each vnode that has a file, in the order of the vnodes' indexes, and behind them those of each log, in the order of the
+    /// logs' numbers.
     pub files: Vec<KeptFile>,
+    /// Which logs there are, if there are any.
+    pub logs: Option<Logs>,
 }
 
 impl Held {
@@ -59,7 +64,38 @@ impl Held {
             },
             hooks: Vec::new(alloc),
             files: Vec::new(alloc),
+            logs: None,
         }
+    }
+
+    /// How many vnodes the files are of: one more than the greatest index. None where no vnode has a file.
+    pub fn vnodes(&self) -> Option<u32>
+        ensures some { IfSome result (λ count. (0 < count) × (count ≡ vnodes_of self.now.files.items)) }
+        ensures none { IfNone result (vnodes_of self.now.files.items ≡ 0) }
+    {
+        let count = count_vnodes(&self.files);
+        if count == 0 { None } else { Some(count) }
+    }
+}
+
+/// How many vnodes files are of; 0 where no vnode has one.
+fn count_vnodes(files: &[KeptFile]) -> u32
+    ensures { result ≡ vnodes_of files.now }
+{
+    let mut count = 0u32;
+    for file in files {
+        count = count.max(count_in(file.from));
+    }
+    count
+}
+
+/// The same of one file.
+fn count_in(from: Source) -> u32
+    ensures { result ≡ vnodes_from from }
+{
+    match from {
+        Source::Vnode(id) => id % VNODES_PER_NUMBER + 1,
+        Source::Log(_) => 0,
     }
 }
 
@@ -88,6 +124,15 @@ pub enum OpenFault {
     Unsealed {
         name: &'static str,
     },
+    /// A log can't be read.
+    #[error("log-{number}: {fault}")]
+    Log {
+        number: u64,
+        fault: LogFault,
+    },
+    /// The names of files can't be read.
+    #[error("folder: {0}")]
+    Unlisted(FileFault),
     /// What is set can't be read.
     #[error("{SETTINGS}: not lines `snapshot SECONDS`, `number N` and `copies 1` to `copies 3`")]
     Unset,
@@ -111,7 +156,7 @@ impl From<AllocError> for OpenFault {
     }
 }
 
-/// Reads all files of a folder, and takes a number: the least above that of the last start and above all that the files name, and no less
+/// Reads all files of a folder, those of vnodes and logs too, and takes a number: the least above that of the last start and above all that the files name, and no less
 /// than what is set or than `minute`, the minutes since the first of 2026. It is written and forced to the device before anything else is
 /// done. An empty folder is a new store. Nothing is changed where a file is at fault. The files of records are read and taken apart by
 /// several threads where there are some; of those at fault the first is told.
@@ -132,7 +177,9 @@ pub fn open<F: Folder + Sync, R: Threads + Sync>(
     ensures settings { IfOk result (λ opened. (found : Option (List ℕ)) × F.finds folder.old (codes "settings") found × IsSetBy found opened.held.settings) }
     ensures copies { IfOk result (λ opened. (0 < opened.held.settings.copies) × (opened.held.settings.copies ≤ 3)) }
     ensures hooks { IfOk result (λ opened. IsHeldIn (F.finds folder.old) (codes "hooks.requests") opened.held.hooks.items) }
-    ensures read { IfOk result (λ opened. (index : ℕ) → index < 3 → IsReadAt (F.finds folder.old) opened.held.files.items index) }
+    ensures read { IfOk result (λ opened. (index : ℕ) → index < most_vnodes → IsReadAt (F.finds folder.old) opened.held.files.items index) }
+    ensures files { IfOk result (λ opened. AreAllFiles (F.finds folder.old) opened.held.logs opened.held.files.items) }
+    ensures vnodes { IfOk result (λ opened. vnodes_of opened.held.files.items ≤ most_vnodes) }
     ensures put { IfOk result (λ opened. IsPut F.does folder.old (codes "incarnation") (sealed (number_text opened.number)) folder.new) }
 {
     let held = read_all(alloc, rt, folder)?;
@@ -188,7 +235,9 @@ fn read_all<F: Folder + Sync, R: Threads + Sync>(
     rt: &R,
     folder: &F,
 ) -> Result<Held, OpenFault>
-    ensures read { IfOk result (λ held. (index : ℕ) → index < 3 → IsReadAt (F.finds folder.now) held.files.items index) }
+    ensures read { IfOk result (λ held. (index : ℕ) → index < most_vnodes → IsReadAt (F.finds folder.now) held.files.items index) }
+    ensures files { IfOk result (λ held. AreAllFiles (F.finds folder.now) held.logs held.files.items) }
+    ensures vnodes { IfOk result (λ held. vnodes_of held.files.items ≤ most_vnodes) }
     ensures settings { IfOk result (λ held. (found : Option (List ℕ)) × F.finds folder.now (codes "settings") found × IsSetBy found held.settings) }
     ensures last { IfOk result (λ held. (found : Option (List ℕ)) × F.finds folder.now (codes "incarnation") found × IsLastIn found held.last) }
     ensures hooks { IfOk result (λ held. IsHeldIn (F.finds folder.now) (codes "hooks.requests") held.hooks.items) }
@@ -196,7 +245,7 @@ fn read_all<F: Folder + Sync, R: Threads + Sync>(
     let settings = settings_of(alloc, folder)?;
     let last = last_in(alloc, folder)?;
     let hooks = requests_in(alloc, folder)?;
-    let files = files_in(alloc, rt, folder)?;
+    let (files, logs) = files_in(alloc, rt, folder)?;
     if last.is_none() && !files.is_empty() {
         return Err(OpenFault::Numberless);
     }
@@ -205,6 +254,7 @@ fn read_all<F: Folder + Sync, R: Threads + Sync>(
         settings,
         hooks,
         files,
+        logs,
     })
 }
 
@@ -295,31 +345,48 @@ fn number_of(alloc: Global, text: &[u8]) -> Result<Option<u32>, OpenFault>
     }
 }
 
-/// The files of records that there are. The first is read and taken apart, and then the two others side by side where there are threads for
-/// that: their records take the memory of those of the first that are the same, as nearly all are.
+/// The files of records that there are: those of vnodes, and behind them the logs.
 fn files_in<F: Folder + Sync, R: Threads + Sync>(
     alloc: Global,
     rt: &R,
     folder: &F,
+) -> Result<(Vec<KeptFile>, Option<Logs>), OpenFault>
+    ensures read { IfOk result (λ x. (index : ℕ) → index < most_vnodes → IsReadAt (F.finds folder.now) x.0.items index) }
+    ensures files { IfOk result (λ x. AreAllFiles (F.finds folder.now) x.1 x.0.items) }
+    ensures vnodes { IfOk result (λ x. vnodes_of x.0.items ≤ most_vnodes) }
+{
+    let mut files = vnodes_in(alloc, rt, folder)?;
+    let logs = add_logs(alloc, rt, folder, &mut files)?;
+    Ok((files, logs))
+}
+
+/// The files of vnodes that there are. That of the first is read and taken apart, and then the others side by side where there are threads for
+/// that: their records take the memory of those of the first that are the same, as nearly all are where each vnode has each key.
+fn vnodes_in<F: Folder + Sync, R: Threads + Sync>(
+    alloc: Global,
+    rt: &R,
+    folder: &F,
 ) -> Result<Vec<KeptFile>, OpenFault>
-    ensures { IfOk result (λ files. (index : ℕ) → index < 3 → IsReadAt (F.finds folder.now) files.items index) }
+    ensures read { IfOk result (λ files. (index : ℕ) → index < most_vnodes → IsReadAt (F.finds folder.now) files.items index) }
+    ensures files { IfOk result (λ files. AllByRecursion (IsVnodeIn (F.finds folder.now)) files.items) }
 {
     let first = file_in(alloc, rt, folder, 0, &[])?;
     let records = records_read(first.as_ref());
-    let (second, third) = thread::join(
+    let others = thread::map_indices(
         rt,
-        || -> Result<Option<KeptFile>, OpenFault>
-            ensures { IfOk result (λ file. IsFoundAt (F.finds folder.entry.now) 1 file) }
-        { file_in(alloc, rt, folder, 1, records) },
-        || -> Result<Option<KeptFile>, OpenFault>
-            ensures { IfOk result (λ file. IsFoundAt (F.finds folder.entry.now) 2 file) }
-        { file_in(alloc, rt, folder, 2, records) },
-    );
-    let (second, third) = (second?, third?);
-    let mut files = Vec::with_capacity(alloc, VNODES)?;
+        alloc,
+        MAX_VNODES - 1,
+        &|place: usize| -> Result<Option<KeptFile>, OpenFault>
+            requires { place < 15 }
+            ensures { IfOk result (λ file. IsFoundAt (F.finds folder.entry.now) (place + 1) file) }
+        { file_in(alloc, rt, folder, place + 1, records) },
+    )?;
+    let mut files = Vec::with_capacity(alloc, MAX_VNODES)?;
     add(&mut files, first)?;
-    add(&mut files, second)?;
-    add(&mut files, third)?;
+    for answer in others {
+        let found = answer?;
+        add(&mut files, found)?;
+    }
     Ok(files)
 }
 
@@ -332,7 +399,7 @@ fn records_read(file: Option<&KeptFile>) -> &[Record] {
 }
 
 /// Adds a file to others, if there is one.
-fn add(files: &mut Vec<KeptFile>, found: Option<KeptFile>) -> Result<(), OpenFault>
+pub(crate) fn add(files: &mut Vec<KeptFile>, found: Option<KeptFile>) -> Result<(), OpenFault>
     ensures { OnOk result (files.new.items ≡ files.old.items ++ option_to_list found) }
 {
     let Some(file) = found else {
@@ -374,7 +441,7 @@ fn file_of<R: Threads>(
     };
     let name = name_of(index);
     match read_file(alloc, rt, &bytes, others) {
-        Ok(file) if (file.from % VNODES_PER_NUMBER) as usize == index => Ok(Some(file)),
+        Ok(file) if file.from.is_of(index) => Ok(Some(file)),
         Ok(_) => Err(OpenFault::Misplaced { name }),
         Err(Unkept::NoMemory) => Err(OpenFault::NoMemory),
         Err(fault) => Err(OpenFault::Damaged { name, fault }),

@@ -1,4 +1,5 @@
-mod Loading
+mod Merging
+mod Loaded
 mod Fronts
 mod Standing
 mod Acknowledged

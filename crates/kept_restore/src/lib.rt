@@ -7,7 +7,7 @@ pub mod laws;
 mod loads;
 mod side_by_side;
 
-pub use beginning::{Passes, Unloaded, fronts_of, load_all};
+pub use beginning::{Loader, Unloaded, fronts_of};
 pub use fault::LoadFault;
-pub use loads::{Throttle, load};
-pub use side_by_side::join_three;
+pub use loads::{Loading, Throttle};
+pub use side_by_side::processors;

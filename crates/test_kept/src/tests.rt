@@ -3,6 +3,7 @@
 mod alike;
 mod folds;
 mod hooks;
+mod logs;
 mod memory;
 mod replacing;
 mod settings;

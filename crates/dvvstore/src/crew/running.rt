@@ -2,7 +2,7 @@
 
 ghost use Rattle.std.specs.Prelude.{◌≡◌, ◌+◌, ◌++◌, ◌≤◌, [], IfOk, map, vec_len};
 ghost use Rattle.audit_cluster.specs.Following.{IsFollowedTo, IsSaidOf};
-ghost use Rattle.dvvstore.specs.Asides.{AllRead, AreGathered, WithAsides, passes_of};
+ghost use Rattle.dvvstore.specs.Asides.{AllRead, AreGathered, WithAsides};
 ghost use Rattle.dvvstore.specs.Visits.{AfterAnswers, AfterAnswersOf, HaveVisited, begun};
 
 use crate::crew::signs::Signs;
@@ -14,7 +14,6 @@ use cluster::{Cluster, Pass, Room};
 use hook_registry::{HookChanges, Hooks};
 use kept_folder::Folder;
 use kept_hooks::Requests;
-use kept_restore::Passes;
 use server_accept::Lobby;
 use std::alloc::{AllocError, Global};
 use std::sync::Wait;
@@ -29,7 +28,7 @@ pub struct Crew<B: Room + Spot, H, F> {
     /// Who follows.
     pub lookout: Lookout<B>,
     /// The passes by which the vnodes have taken over what they began with, and by which snapshots are made.
-    pub spares: Passes<B>,
+    pub spares: Vec<Pass<B>>,
     /// Who makes snapshots, if somebody does.
     pub saver: Option<Saver<F>>,
 }
@@ -38,7 +37,7 @@ pub struct Crew<B: Room + Spot, H, F> {
 #[derive(Drop)]
 struct Back<B: Room + Spot> {
     passes: Vec<Pass<B>>,
-    spares: Passes<B>,
+    spares: Vec<Pass<B>>,
     watch: Watch<B>,
     requests: Requests,
 }
@@ -52,7 +51,7 @@ struct Back<B: Room + Spot> {
 fn run<
     B: Room + Spot + Send + Sync,
     H: Hooks + HookChanges + Send + Drop,
-    F: Folder + Copy + Send,
+    F: Folder + Copy + Send + Sync,
     R: Threads + Wait + Sync,
 >(
     host: &Host<'_, R>,
@@ -61,9 +60,11 @@ fn run<
     lobby: &Lobby,
 ) -> Result<Back<B>, AllocError>
     requires first { cluster.now.first ≡ B.first }
+    requires few { vec_len crew.spares ≤ 16 }
+    ensures count { IfOk result (λ left. vec_len left.spares ≡ vec_len crew.spares) }
     ensures passes { IfOk result (λ left. vec_len left.passes ≡ vec_len crew.seats) }
     ensures visited { IfOk result (λ left. HaveVisited H.finds H.names H.takes (map (λ s. begun cluster.now s.pass s.hooking.hooks s.hooking.table.listed s.placement) crew.seats.items) left.passes.items) }
-    ensures spares { IfOk result (λ left. AllRead cluster.now.first crew.spares left.spares) }
+    ensures spares { IfOk result (λ left. AllRead cluster.now.first crew.spares.items left.spares.items) }
 {
     let Crew {
         seats,
@@ -76,8 +77,9 @@ fn run<
     let (lent, both) = (cluster, &shared);
     let (spares, back) = thread::join(
         rt,
-        || -> Passes<B>
-            ensures { AllRead lent.entry.now.first spares result }
+        || -> Vec<Pass<B>>
+            requires { vec_len spares ≤ 16 }
+            ensures { AllRead lent.entry.now.first spares.items result.items × (vec_len result ≡ vec_len spares) }
         { save_beside(rt, lent, &both.signs(lobby), saver, spares) },
         || -> Result<Vec<Pass<B>>, AllocError>
             requires { lent.now.first ≡ B.first }
@@ -99,14 +101,16 @@ fn run<
 
 /// Makes snapshots by spare passes until all workers have ended, if somebody makes them. The passes come back.
 #[tactic(auto, using(crate::proofs::Growing::all_read_same))]
-fn save_beside<B: Room + Send + Sync, F: Folder + Copy + Send, R: Threads + Wait + Sync>(
+fn save_beside<B: Room + Send + Sync, F: Folder + Copy + Send + Sync, R: Threads + Wait + Sync>(
     rt: &R,
     cluster: &Cluster<B>,
     signs: &Signs<'_>,
     saver: Option<Saver<F>>,
-    spares: Passes<B>,
-) -> Passes<B>
-    ensures { AllRead cluster.now.first spares result }
+    spares: Vec<Pass<B>>,
+) -> Vec<Pass<B>>
+    requires few { vec_len spares ≤ 16 }
+    ensures read { AllRead cluster.now.first spares.items result.items }
+    ensures count { vec_len result ≡ vec_len spares }
 {
     match saver {
         Some(mut saver) => saver.run(rt, cluster, spares, signs),
@@ -134,7 +138,7 @@ pub struct Served {
 pub fn serve<
     B: Room + Spot + Send + Sync,
     H: Hooks + HookChanges + Send + Drop,
-    F: Folder + Copy + Send,
+    F: Folder + Copy + Send + Sync,
     R: Threads + Wait + Sync,
 >(
     host: &Host<'_, R>,
@@ -144,12 +148,13 @@ pub fn serve<
     fronts: &[usize],
 ) -> Result<Served, AllocError>
     requires first { cluster.first ≡ B.first }
-    requires all { cluster.passes ≤ vec_len crew.seats + 4 }
+    requires all { cluster.passes ≤ vec_len crew.seats + vec_len crew.spares + 1 }
+    requires few { vec_len crew.spares ≤ 16 }
     // Each answer of a worker tells of the journals that are left, by the receipts of its own calls.
-    ensures kept { IfOk result (λ served. AfterAnswers H.finds H.names H.takes (map (λ s. begun cluster s.pass s.hooking.hooks s.hooking.table.listed s.placement) crew.seats.items) served.closed.vnodes.items (λ told. AreGathered cluster.first told crew.spares served.closed.vnodes.items) × (vec_len served.closed.vnodes ≡ cluster.vnodes)) }
+    ensures kept { IfOk result (λ served. AfterAnswers H.finds H.names H.takes (map (λ s. begun cluster s.pass s.hooking.hooks s.hooking.table.listed s.placement) crew.seats.items) served.closed.vnodes.items (λ told. AreGathered cluster.first told crew.spares.items served.closed.vnodes.items) × (vec_len served.closed.vnodes ≡ cluster.vnodes)) }
     ensures said { IfOk result (λ served. IsSaidOf fronts.now served.closed.vnodes.items served.closed.said) }
     // Where nothing was there before, a yes is that of the journals from their first entries on.
-    ensures followed { IfOk result (λ served. fronts.now ≡ [] → AfterAnswersOf H.finds H.names H.takes (map (λ s. begun cluster s.pass s.hooking.hooks s.hooking.table.listed s.placement) crew.seats.items) (λ told all. WithAsides cluster.first crew.spares (λ these. (these ≡ all) × IsFollowedTo all cluster.vnodes served.closed.said) told)) }
+    ensures followed { IfOk result (λ served. fronts.now ≡ [] → AfterAnswersOf H.finds H.names H.takes (map (λ s. begun cluster s.pass s.hooking.hooks s.hooking.table.listed s.placement) crew.seats.items) (λ told all. WithAsides cluster.first crew.spares.items (λ these. (these ≡ all) × IsFollowedTo all cluster.vnodes served.closed.said) told)) }
 {
     let Back {
         passes,
@@ -166,18 +171,11 @@ pub fn serve<
 /// The passes of workers, and behind them spare ones.
 fn all_passes<B: Room>(
     mut passes: Vec<Pass<B>>,
-    spares: Passes<B>,
+    mut spares: Vec<Pass<B>>,
 ) -> Result<Vec<Pass<B>>, AllocError>
-    ensures all { IfOk result (λ all. all.items ≡ passes.items ++ passes_of spares) }
-    ensures count { IfOk result (λ all. vec_len all ≡ vec_len passes + 3) }
+    ensures all { IfOk result (λ all. all.items ≡ passes.items ++ spares.items) }
+    ensures count { IfOk result (λ all. vec_len all ≡ vec_len passes + vec_len spares) }
 {
-    let Passes {
-        first,
-        second,
-        third,
-    } = spares;
-    passes.push(first)?;
-    passes.push(second)?;
-    passes.push(third)?;
+    passes.append(&mut spares)?;
     Ok(passes)
 }

@@ -1,6 +1,7 @@
 //! What somebody looks at who does something beside the workers.
 
-ghost use Rattle.std.specs.Prelude.{◌≡◌, ◌&&◌, not};
+ghost use Rattle.std.specs.Prelude.{◌≡◌, ◌&&◌, IfOk, IfSome, not};
+ghost use Rattle.dvvstore.specs.Asides.{IsWholeList};
 
 use kept_hooks::{Requests, Writes};
 use server_accept::Lobby;
@@ -103,7 +104,9 @@ impl<'a> Signs<'a> {
     }
 
     /// The requests that make the hooks what they are. None where one of them is lacking.
-    pub fn requests<R: Wait>(&self, rt: &R) -> Result<Option<Vec<u8>>, AllocError> {
+    pub fn requests<R: Wait>(&self, rt: &R) -> Result<Option<Vec<u8>>, AllocError>
+        ensures { IfOk result (λ bytes. IfSome bytes (λ bytes. IsWholeList bytes.items)) }
+    {
         self.requests.lock(rt).bytes()
     }
 }

@@ -8,6 +8,7 @@ use crate::network::{Said, finish};
 use crate::reasons::bind;
 use crate::session;
 use crate::session::{Left, Making};
+use crate::spread::Spread;
 use crate::tests::memory::{Pages, Shared};
 use crate::tests::{PATIENCE, is_told, two_tables};
 use bpf_helpers::Table;
@@ -15,6 +16,7 @@ use commands::server::{Ended, Says as _, Unserved};
 use dvv::VNODES_PER_NUMBER;
 use kept_folder::{HOOKS, Held, Opened};
 use server_accept::{Bound, Lobby, Setup, open};
+use std::alloc::Global;
 use std::io::Stderr;
 use std::net::{Net, SocketAddr, TcpListener, TcpStream};
 use std::sync::{Mutex, Wait};
@@ -68,10 +70,11 @@ const STOPPED: [Line; 1] = [(
     b"HTTP/1.1 200 OK\r\nContent-Type: text/plain\r\nX-Riak-Vclock: AgABAQAAAAAAAAAAAAE=\r\nContent-Length: 1\r\nX-Content-Type-Options: nosniff\r\nServer: dvvstore\r\n\r\nd",
 )];
 
-/// What a client of one start asks, before a snapshot and behind it. Another is waited for then: it has begun behind all that was asked
+/// What a client of one start asks, of so many vnodes where it begins with no file, before a snapshot and behind it. Another is waited for then: it has begun behind all that was asked
 /// first. Where nothing is asked behind it none is waited for.
 #[derive(Clone, Copy)]
 struct Round {
+    vnodes: u32,
     first: &'static [Line],
     later: &'static [Line],
 }
@@ -79,17 +82,132 @@ struct Round {
 /// The first start, one from its last snapshot, and one from its stop.
 const ROUNDS: [Round; 3] = [
     Round {
+        vnodes: 3,
         first: &FIRST,
         later: &LATER,
     },
     Round {
+        vnodes: 3,
         first: &BOTH,
         later: &[],
     },
     Round {
+        vnodes: 3,
         first: &STOPPED,
         later: &[],
     },
+];
+
+/// Two keys are written to one vnode.
+const TO_ONE: [Line; 2] = [
+    (
+        b"PUT /buckets/c/keys/k HTTP/1.1\r\nHost: h\r\nContent-Type: text/plain\r\nContent-Length: 1\r\n\r\nc",
+        b"HTTP/1.1 204 No Content\r\nX-Riak-Tag: 0-1\r\nX-Content-Type-Options: nosniff\r\nServer: dvvstore\r\n\r\n",
+    ),
+    (
+        b"PUT /buckets/d/keys/k HTTP/1.1\r\nHost: h\r\nContent-Type: text/plain\r\nContent-Length: 1\r\n\r\nd",
+        b"HTTP/1.1 204 No Content\r\nX-Riak-Tag: 0-1\r\nX-Content-Type-Options: nosniff\r\nServer: dvvstore\r\n\r\n",
+    ),
+];
+
+/// They are there.
+const OF_ONE: [Line; 2] = [
+    (
+        b"GET /buckets/c/keys/k HTTP/1.1\r\nHost: h\r\n\r\n",
+        b"HTTP/1.1 200 OK\r\nContent-Type: text/plain\r\nX-Riak-Vclock: AgABAAAAAAAAAAAAAAE=\r\nContent-Length: 1\r\nX-Content-Type-Options: nosniff\r\nServer: dvvstore\r\n\r\nc",
+    ),
+    (
+        b"GET /buckets/d/keys/k HTTP/1.1\r\nHost: h\r\n\r\n",
+        b"HTTP/1.1 200 OK\r\nContent-Type: text/plain\r\nX-Riak-Vclock: AgABAAAAAAAAAAAAAAE=\r\nContent-Length: 1\r\nX-Content-Type-Options: nosniff\r\nServer: dvvstore\r\n\r\nd",
+    ),
+];
+
+/// Two keys are written to four vnodes, at the places that the digests of the keys give.
+const TO_FOUR: [Line; 2] = [
+    (
+        b"PUT /buckets/c/keys/k HTTP/1.1\r\nHost: h\r\nContent-Type: text/plain\r\nContent-Length: 1\r\n\r\nc",
+        b"HTTP/1.1 204 No Content\r\nX-Riak-Tag: 3-1\r\nX-Content-Type-Options: nosniff\r\nServer: dvvstore\r\n\r\n",
+    ),
+    (
+        b"PUT /buckets/d/keys/k HTTP/1.1\r\nHost: h\r\nContent-Type: text/plain\r\nContent-Length: 1\r\n\r\nd",
+        b"HTTP/1.1 204 No Content\r\nX-Riak-Tag: 1-1\r\nX-Content-Type-Options: nosniff\r\nServer: dvvstore\r\n\r\n",
+    ),
+];
+
+/// They are there.
+const OF_FOUR: [Line; 2] = [
+    (
+        b"GET /buckets/c/keys/k HTTP/1.1\r\nHost: h\r\n\r\n",
+        b"HTTP/1.1 200 OK\r\nContent-Type: text/plain\r\nX-Riak-Vclock: AgABAwAAAAAAAAAAAAE=\r\nContent-Length: 1\r\nX-Content-Type-Options: nosniff\r\nServer: dvvstore\r\n\r\nc",
+    ),
+    (
+        b"GET /buckets/d/keys/k HTTP/1.1\r\nHost: h\r\n\r\n",
+        b"HTTP/1.1 200 OK\r\nContent-Type: text/plain\r\nX-Riak-Vclock: AgABAQAAAAAAAAAAAAE=\r\nContent-Length: 1\r\nX-Content-Type-Options: nosniff\r\nServer: dvvstore\r\n\r\nd",
+    ),
+];
+
+/// Two keys are written to sixteen vnodes.
+const TO_SIXTEEN: [Line; 2] = [
+    (
+        b"PUT /buckets/c/keys/k HTTP/1.1\r\nHost: h\r\nContent-Type: text/plain\r\nContent-Length: 1\r\n\r\nc",
+        b"HTTP/1.1 204 No Content\r\nX-Riak-Tag: 3-1\r\nX-Content-Type-Options: nosniff\r\nServer: dvvstore\r\n\r\n",
+    ),
+    (
+        b"PUT /buckets/d/keys/k HTTP/1.1\r\nHost: h\r\nContent-Type: text/plain\r\nContent-Length: 1\r\n\r\nd",
+        b"HTTP/1.1 204 No Content\r\nX-Riak-Tag: 13-1\r\nX-Content-Type-Options: nosniff\r\nServer: dvvstore\r\n\r\n",
+    ),
+];
+
+/// They are there.
+const OF_SIXTEEN: [Line; 2] = [
+    (
+        b"GET /buckets/c/keys/k HTTP/1.1\r\nHost: h\r\n\r\n",
+        b"HTTP/1.1 200 OK\r\nContent-Type: text/plain\r\nX-Riak-Vclock: AgABAwAAAAAAAAAAAAE=\r\nContent-Length: 1\r\nX-Content-Type-Options: nosniff\r\nServer: dvvstore\r\n\r\nc",
+    ),
+    (
+        b"GET /buckets/d/keys/k HTTP/1.1\r\nHost: h\r\n\r\n",
+        b"HTTP/1.1 200 OK\r\nContent-Type: text/plain\r\nX-Riak-Vclock: AgABDQAAAAAAAAAAAAE=\r\nContent-Length: 1\r\nX-Content-Type-Options: nosniff\r\nServer: dvvstore\r\n\r\nd",
+    ),
+];
+
+/// Starts of one, four and sixteen vnodes, each with the start behind it, which has as many as there are files, whatever is asked for.
+const SPREADS: [[Round; 2]; 3] = [
+    [
+        Round {
+            vnodes: 1,
+            first: &TO_ONE,
+            later: &[],
+        },
+        Round {
+            vnodes: 2,
+            first: &OF_ONE,
+            later: &[],
+        },
+    ],
+    [
+        Round {
+            vnodes: 4,
+            first: &TO_FOUR,
+            later: &[],
+        },
+        Round {
+            vnodes: 2,
+            first: &OF_FOUR,
+            later: &[],
+        },
+    ],
+    [
+        Round {
+            vnodes: 16,
+            first: &TO_SIXTEEN,
+            later: &[],
+        },
+        Round {
+            vnodes: 2,
+            first: &OF_SIXTEEN,
+            later: &[],
+        },
+    ],
 ];
 
 /// What a client asks, and where.
@@ -113,6 +231,7 @@ struct Seen {
 struct Begun {
     number: u32,
     held: Held,
+    spread: Spread,
     tables: Vec<Table>,
     ghost few: { number ≤ 16777215 },
     ghost two: { vec_len tables ≡ 2 },
@@ -201,16 +320,18 @@ fn visit<R: Net<Listener = TcpListener, Stream = TcpStream> + Wait>(
     seen
 }
 
-/// A start that reads a folder.
-fn begin<R: Threads + Wait + Sync>(mut folder: Shared<'_, R>) -> Result<Begun, Fail> {
+/// A start that reads a folder. Each key has one copy, at one of so many vnodes, or of those whose files were read.
+fn begin<R: Threads + Wait + Sync>(mut folder: Shared<'_, R>, vnodes: u32) -> Result<Begun, Fail> {
     let Shared { rt, alloc, .. } = folder;
     let Ok(Opened { number, held }) = kept_folder::open(alloc, rt, &mut folder, 0) else {
         return Err(Fail::from("not opened"));
     };
     let tables = two_tables(alloc)?;
+    let spread = Spread::among(held.vnodes().or(Some(vnodes)), 2, 1);
     Ok(Begun {
         number,
         held,
+        spread,
         tables,
     })
 }
@@ -230,7 +351,7 @@ fn hall_of(rt: &HostRuntime) -> Result<Hall, Fail> {
     Ok(Hall { lobby, addr, err })
 }
 
-/// Serves what a folder held, until it is stopped. Each key has one copy.
+/// Serves what a folder held, until it is stopped.
 fn serve<R: Threads + Wait + Sync>(
     folder: Shared<'_, R>,
     begun: Begun,
@@ -240,12 +361,13 @@ fn serve<R: Threads + Wait + Sync>(
     let Begun {
         number,
         held,
+        spread,
         tables,
     } = begun;
     let making = Making {
         first: number * VNODES_PER_NUMBER,
         seed: Seed::fixed(),
-        copies: 1,
+        spread,
     };
     let stay = Stay {
         folder: Some(folder),
@@ -293,7 +415,7 @@ fn round_over<R: Threads + Wait + Sync + Net<Listener = TcpListener, Stream = Tc
     hall: &Hall,
     round: Round,
 ) -> Result<Pages, Fail> {
-    let begun = begin(folder)?;
+    let begun = begin(folder, round.vnodes)?;
     let number = begun.number;
     let (seen, left) = both(folder, begun, hall, round);
     let Seen { is_right, snapshot } = seen?;
@@ -323,5 +445,35 @@ fn what_was_acknowledged(rt: HostRuntime) -> Result<(), Fail> {
     };
     round_over(copy, &hall_of(lent)?, snapped)?;
     round_over(folder, &hall_of(lent)?, stopped)?;
+    Ok(())
+}
+
+/// Whether what one start writes the next one reads, in a folder of their own.
+fn is_read_again<R: Threads + Wait + Sync + Net<Listener = TcpListener, Stream = TcpStream>>(
+    rt: &R,
+    alloc: Global,
+    halls: &[Hall; 2],
+    rounds: [Round; 2],
+) -> Result<(), Fail> {
+    let [first, second] = halls;
+    let [written, read] = rounds;
+    let kept = Mutex::new(Pages::new(alloc));
+    let folder = Shared {
+        rt,
+        alloc,
+        pages: &kept,
+    };
+    round_over(folder, first, written)?;
+    round_over(folder, second, read)?;
+    Ok(())
+}
+
+/// A store has any number of vnodes, and at its next start as many as it had.
+#[test]
+fn any_number_of_vnodes(rt: HostRuntime) -> Result<(), Fail> {
+    for rounds in SPREADS {
+        let halls = [hall_of(&rt)?, hall_of(&rt)?];
+        is_read_again(&rt, rt.alloc(), &halls, rounds)?;
+    }
     Ok(())
 }

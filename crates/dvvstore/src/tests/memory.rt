@@ -74,6 +74,15 @@ impl Pages {
         Ok(None)
     }
 
+    /// The names of the files.
+    fn names(&self, alloc: Global) -> Result<Vec<String>, AllocError> {
+        let mut names = Vec::new(alloc);
+        for page in &self.pages {
+            names.push(String::from_str(alloc, page.name.as_str())?)?;
+        }
+        Ok(names)
+    }
+
     /// Makes a file hold these bytes alone.
     pub fn set(&mut self, name: &str, bytes: &[u8]) -> Result<(), AllocError> {
         let new = Page::new(self.alloc, name, bytes)?;
@@ -105,6 +114,10 @@ impl<R: Wait> Folder for Shared<'_, R> {
 
     fn read(&self, alloc: Global, name: &str) -> Result<Option<Vec<u8>>, FileFault> {
         Ok(self.pages.lock(self.rt).get(alloc, name)?)
+    }
+
+    fn names(&self, alloc: Global) -> Result<Vec<String>, FileFault> {
+        Ok(self.pages.lock(self.rt).names(alloc)?)
     }
 
     fn create(&mut self, name: &str) -> Result<Page, FileFault> {

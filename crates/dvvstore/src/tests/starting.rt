@@ -5,11 +5,12 @@ use crate::keeper::{Address, Door, Stay, Unbegun};
 use crate::reasons::bind;
 use crate::session;
 use crate::session::{Left, Making};
+use crate::spread::Spread;
 use crate::system_folder::SystemFolder;
 use crate::tests::two_tables;
 use audit_faults::{Followed, WatchFault};
 use dvv::{Clock, VNODES_PER_NUMBER};
-use kept_file::KeptFile;
+use kept_file::{KeptFile, Source};
 use kept_folder::{Held, Settings};
 use key_state::{Content, Key, KeyState};
 use record_codec::Record;
@@ -42,7 +43,10 @@ fn file_of(alloc: Global, from: u32) -> Result<KeptFile, Fail> {
             state,
         })?;
     }
-    Ok(KeptFile { from, records })
+    Ok(KeptFile {
+        from: Source::Vnode(from),
+        records,
+    })
 }
 
 /// How many entries the journals of a store have that is kept, and what is said of them.
@@ -79,6 +83,7 @@ fn kept_store(rt: HostRuntime) -> Result<(), Fail> {
             },
             hooks: Vec::new(alloc),
             files,
+            logs: None,
         },
         door: Door::Closed(Address {
             rt: &rt,
@@ -91,7 +96,10 @@ fn kept_store(rt: HostRuntime) -> Result<(), Fail> {
     let making = Making {
         first: BEFORE + VNODES_PER_NUMBER,
         seed: Seed::fixed(),
-        copies: 3,
+        spread: Spread {
+            vnodes: 3,
+            copies: 3,
+        },
     };
     let tables = two_tables(alloc)?;
     let host = Host { alloc, rt: &rt };

@@ -1,7 +1,7 @@
 //! What files of former starts hold once they are folded.
 
 use dvv::{Dot, VNODES_PER_NUMBER};
-use kept_file::KeptFile;
+use kept_file::{KeptFile, Source};
 use kept_fold::fold_files;
 use key_state::{Bytes, Content, Key, KeyState};
 use record_codec::Record;
@@ -108,7 +108,10 @@ fn file_of(alloc: Global, index: u32) -> Result<KeptFile, Fail> {
         name = name.saturating_add(1);
     }
     let from = index.saturating_add(127_744);
-    Ok(KeptFile { from, records })
+    Ok(KeptFile {
+        from: Source::Vnode(from),
+        records,
+    })
 }
 
 /// Whether a record is what a fold leaves of it.
@@ -164,7 +167,10 @@ fn values_of(alloc: Global, last: u32, index: u32, first: u8, count: u8) -> Resu
 fn file_with(alloc: Global, from: u32, name: u8, state: KeyState) -> Result<KeptFile, Fail> {
     let mut records = Vec::new(alloc);
     records.push(record_of(alloc, name, state)?)?;
-    Ok(KeptFile { from, records })
+    Ok(KeptFile {
+        from: Source::Vnode(from),
+        records,
+    })
 }
 
 /// The values of a key of 64 siblings at one vnode, and of 40 at another, as they are numbered anew: by starts, at each by vnodes, and at each

@@ -125,6 +125,17 @@ impl Folder for Memory {
         Ok(None)
     }
 
+    fn names(&self, alloc: Global) -> Result<Vec<String>, FileFault> {
+        let mut names = Vec::new(alloc);
+        for file in &self.files {
+            let name = String::from_str(alloc, file.name.as_str())?;
+            if names.push(name).is_err() {
+                return Err(FileFault::NoMemory);
+            }
+        }
+        Ok(names)
+    }
+
     fn create(&mut self, name: &str) -> Result<MemoryFile, FileFault> {
         self.spend()?;
         let empty = Vec::new(self.alloc);

@@ -10,15 +10,17 @@ use Rattle.dvvstore.proofs.keeper.live.Goals as goal
 
 pub returns-in-Open-clause-kept : goal.returns-in-Open-clause-kept
 returns-in-Open-clause-kept g c =
-    let (one, two, three, first, second, third, fronts, number) = c.requires.begun in
+    let (fresh, loaded, fronts, number) = c.requires.begun in
     let stay = c.args.stay in
     let files = stay.held.files.items in
     let id = c.args.staffed.cluster.first in
+    let vnodes = c.args.staffed.cluster.vnodes in
+    let many = sym c.args.staffed.begun.spares.ok.0 ∙ c.requires.spares in
     let served = c.serve.result in
-    let begins = begins_from g.H.Hooks.finds g.H.Hooks.names g.H.HookChanges.takes _ stay.folder id files c.args.staffed.begun served (λ s. vec_len s.closed.vnodes ≡ c.args.staffed.cluster.vnodes) c.loads_stand.ensures
-    c.requires.begun c.serve.ensures.kept in
-    subst (λ (left : Result Left Unbegun). Leaves stay.folder id files left) (sym c.left_of.ensures)
-    (left_so stay.folder id files served (left_from stay.folder id files _ served (c.deref-in-Open.ensures.value ∙ fronts) begins c.serve.ensures.said))
+    let begins = begins_from g.H.Hooks.finds g.H.Hooks.names g.H.HookChanges.takes _ stay.folder id vnodes files c.args.staffed.begun served (λ s. vec_len s.closed.vnodes ≡ c.args.staffed.cluster.vnodes) c.loads_stand.ensures
+    c.requires.begun many c.serve.ensures.kept in
+    subst (λ (left : Result Left Unbegun). Leaves stay.folder id vnodes files left) (sym c.left_of.ensures)
+    (left_so stay.folder id vnodes files served (left_from stay.folder id vnodes files _ served (c.deref-in-Open.ensures.value ∙ fronts) begins c.serve.ensures.said))
 
 pub returns-in_err-tell_begun-in-Closed-clause-told : goal.returns-in_err-tell_begun-in-Closed-clause-told
 returns-in_err-tell_begun-in-Closed-clause-told g c = tells_unreadable c.args.stay.door _ _ _ c.from_residual-in_err-tell_begun-in-Closed.ensures.1
@@ -30,15 +32,17 @@ returns-clause-told g c =
 
 pub returns-clause-kept : goal.returns-clause-kept
 returns-clause-kept g c =
-    let (one, two, three, first, second, third, fronts, number) = c.requires.begun in
+    let (fresh, loaded, fronts, number) = c.requires.begun in
     let stay = c.args.stay in
     let files = stay.held.files.items in
     let id = c.args.staffed.cluster.first in
+    let vnodes = c.args.staffed.cluster.vnodes in
+    let many = sym c.args.staffed.begun.spares.ok.0 ∙ c.requires.spares in
     let served = c.serve-in-Closed.result in
-    let begins = begins_from g.H.Hooks.finds g.H.Hooks.names g.H.HookChanges.takes _ stay.folder id files c.args.staffed.begun served (λ s. vec_len s.closed.vnodes ≡ c.args.staffed.cluster.vnodes) c.loads_stand.ensures
-    c.requires.begun c.serve-in-Closed.ensures.kept in
-    subst (λ (left : Result Left Unbegun). Leaves stay.folder id files left) (sym c.left_of-in-Closed.ensures)
-    (left_so stay.folder id files served (left_from stay.folder id files _ served (c.deref-in-Closed.ensures.value ∙ fronts) begins c.serve-in-Closed.ensures.said))
+    let begins = begins_from g.H.Hooks.finds g.H.Hooks.names g.H.HookChanges.takes _ stay.folder id vnodes files c.args.staffed.begun served (λ s. vec_len s.closed.vnodes ≡ c.args.staffed.cluster.vnodes) c.loads_stand.ensures
+    c.requires.begun many c.serve-in-Closed.ensures.kept in
+    subst (λ (left : Result Left Unbegun). Leaves stay.folder id vnodes files left) (sym c.left_of-in-Closed.ensures)
+    (left_so stay.folder id vnodes files served (left_from stay.folder id vnodes files _ served (c.deref-in-Closed.ensures.value ∙ fronts) begins c.serve-in-Closed.ensures.said))
 
 pub returns-in-Open-clause-served : goal.returns-in-Open-clause-served
 returns-in-Open-clause-served g c =
@@ -48,9 +52,9 @@ returns-in-Open-clause-served g c =
     let served = c.serve.result in
     let held = hooks_for c.args.stay.folder c.args.stay.held.hooks.items in
     let are = starts_as g.H.HookChanges.takes _ held starts now (c.hooks_of.ensures ∙ ap (λ (hooks : List ℕ). hooks_for c.args.stay.folder hooks) c.deref.ensures.value) (c.begin_seats.new.lookout.requests, c.in_ok-begin_seats.ensures.starts size) in
-    subst (λ (left : Result Left Unbegun). LeavesServed g.H.Hooks.finds g.H.Hooks.names g.H.HookChanges.takes (AreStarts g.H.HookChanges.takes held starts) left) (sym c.left_of.ensures)
-    (served_so g.H.Hooks.finds g.H.Hooks.names g.H.HookChanges.takes (AreStarts g.H.HookChanges.takes held starts) served
-    (served_from g.H.Hooks.finds g.H.Hooks.names g.H.HookChanges.takes held starts now size.first size.vnodes c.args.staffed.begun.spares served are c.requires.three c.serve.ensures.kept))
+    subst (λ (left : Result Left Unbegun). LeavesServed g.H.Hooks.finds g.H.Hooks.names g.H.HookChanges.takes size.vnodes (AreStarts g.H.HookChanges.takes held starts) left) (sym c.left_of.ensures)
+    (served_so g.H.Hooks.finds g.H.Hooks.names g.H.HookChanges.takes size.vnodes (AreStarts g.H.HookChanges.takes held starts) served
+    (served_from g.H.Hooks.finds g.H.Hooks.names g.H.HookChanges.takes held starts now size.first size.vnodes c.args.staffed.begun.spares.items served are c.serve.ensures.kept))
 
 pub returns-clause-served : goal.returns-clause-served
 returns-clause-served g c =
@@ -60,6 +64,6 @@ returns-clause-served g c =
     let served = c.serve-in-Closed.result in
     let held = hooks_for c.args.stay.folder c.args.stay.held.hooks.items in
     let are = starts_as g.H.HookChanges.takes _ held starts now (c.hooks_of.ensures ∙ ap (λ (hooks : List ℕ). hooks_for c.args.stay.folder hooks) c.deref.ensures.value) (c.begin_seats.new.lookout.requests, c.in_ok-begin_seats.ensures.starts size) in
-    subst (λ (left : Result Left Unbegun). LeavesServed g.H.Hooks.finds g.H.Hooks.names g.H.HookChanges.takes (AreStarts g.H.HookChanges.takes held starts) left) (sym c.left_of-in-Closed.ensures)
-    (served_so g.H.Hooks.finds g.H.Hooks.names g.H.HookChanges.takes (AreStarts g.H.HookChanges.takes held starts) served
-    (served_from g.H.Hooks.finds g.H.Hooks.names g.H.HookChanges.takes held starts now size.first size.vnodes c.args.staffed.begun.spares served are c.requires.three c.serve-in-Closed.ensures.kept))
+    subst (λ (left : Result Left Unbegun). LeavesServed g.H.Hooks.finds g.H.Hooks.names g.H.HookChanges.takes size.vnodes (AreStarts g.H.HookChanges.takes held starts) left) (sym c.left_of-in-Closed.ensures)
+    (served_so g.H.Hooks.finds g.H.Hooks.names g.H.HookChanges.takes size.vnodes (AreStarts g.H.HookChanges.takes held starts) served
+    (served_from g.H.Hooks.finds g.H.Hooks.names g.H.HookChanges.takes held starts now size.first size.vnodes c.args.staffed.begun.spares.items served are c.serve-in-Closed.ensures.kept))

@@ -6,5 +6,5 @@ use Rattle.dvvstore.proofs.network.held_for.Goals as goal
 
 pub returns-clause-placed : goal.returns-clause-placed
 returns-clause-placed c =
-    subst (λ (p : PlacementView). ArePlaced p c.args.held.files.items c.in_ok-files.files.items) c.by_digest.ensures
-    (subst (λ (l : List KeptFile). ArePlaced c.by_digest.result l c.in_ok-files.files.items) c.deref.ensures.value c.in_ok-files.ensures.placed)
+    subst (λ (p : PlacementView). ArePlaced p c.args.held.files.items c.in_ok-files.files.items) c.placement.ensures
+    (subst (λ (l : List KeptFile). ArePlaced c.placement.result l c.in_ok-files.files.items) c.deref.ensures.value c.in_ok-files.ensures.placed)

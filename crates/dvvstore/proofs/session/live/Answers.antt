@@ -13,11 +13,11 @@ returns-clause-told g c =
 
 pub returns-clause-kept : goal.returns-clause-kept
 returns-clause-kept g c =
-    leaves_folded c.args.stay.folder c.in_ok-stay.stay.folder c.args.making.first _ c.args.stay.held.files.items c.in_ok-stay.stay.held.files.items c.over_files.result refl c.in_ok-stay.ensures.folder
+    leaves_folded c.args.stay.folder c.in_ok-stay.stay.folder c.args.making.first _ c.args.making.spread.vnodes c.args.stay.held.files.items c.in_ok-stay.stay.held.files.items c.over_files.result refl c.in_ok-stay.ensures.folder
     c.in_ok-stay.ensures.files c.over_files.ensures.kept
 
 pub returns-clause-served : goal.returns-clause-served
 returns-clause-served g c =
     subst
-    (λ (hooks : Option (List ℕ)). LeavesServed Finds Names Takes (BeginOver Takes (record { first = c.args.making.first; vnodes = 3; passes = vec_len c.args.tables + 4 }) c.args.making.copies (map (λ t. t.listed) c.args.tables.items) hooks) c.over_files.result)
+    (λ (hooks : Option (List ℕ)). LeavesServed Finds Names Takes c.args.making.spread.vnodes (BeginOver Takes (record { first = c.args.making.first; vnodes = c.args.making.spread.vnodes; passes = vec_len c.args.tables + c.args.making.spread.vnodes + 1 }) c.args.making.spread.copies (map (λ t. t.listed) c.args.tables.items) hooks) c.over_files.result)
     (ap (λ f. hooks_for f c.in_ok-stay.stay.held.hooks.items) c.in_ok-stay.ensures.folder ∙ ap (λ v. hooks_for c.args.stay.folder v.items) c.in_ok-stay.ensures.hooks) c.over_files.ensures.served

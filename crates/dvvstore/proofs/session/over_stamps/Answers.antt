@@ -10,11 +10,18 @@ use Rattle.dvvstore.proofs.session.over_stamps.Goals as goal
 
 pub returns-clause-kept : goal.returns-clause-kept
 returns-clause-kept g c =
-    leaves_as c.args.stay.folder c.in_ok-vnodes.vnodes.cluster.first c.args.undrawn.making.first c.args.stay.held.files.items c.over_cluster.result c.in_ok-vnodes.ensures.first c.over_cluster.ensures.kept
+    let made = c.in_ok-vnodes.ensures in
+    leaves_as c.args.stay.folder c.in_ok-vnodes.vnodes.cluster.first c.args.undrawn.making.first c.in_ok-vnodes.vnodes.cluster.vnodes c.args.undrawn.making.spread.vnodes c.args.stay.held.files.items c.over_cluster.result
+    made.first made.vnodes c.over_cluster.ensures.kept
 
 pub returns-clause-served : goal.returns-clause-served
 returns-clause-served g c =
     let cluster = c.in_ok-vnodes.vnodes.cluster in
+    let vnodes = c.args.undrawn.making.spread.vnodes in
+    let copies = c.args.undrawn.making.spread.copies in
     let tables = c.args.tables in
-    let size = size_as cluster c.args.undrawn.making.first 3 (vec_len tables + 4) c.in_ok-vnodes.ensures.first c.in_ok-vnodes.ensures.three (c.in_ok-vnodes.ensures.all ∙ ap (λ (n : ℕ). n + 4) c.len.ensures) in
-    subst (λ (s : Size). LeavesServed Finds Names Takes (BeginOver Takes s c.args.undrawn.making.copies (map (λ t. t.listed) tables.items) (hooks_for c.args.stay.folder c.args.stay.held.hooks.items)) c.over_cluster.result) size c.over_cluster.ensures.served
+    let held = hooks_for c.args.stay.folder c.args.stay.held.hooks.items in
+    let made = c.in_ok-vnodes.ensures in
+    let size = size_as cluster c.args.undrawn.making.first vnodes (vec_len tables + vnodes + 1) made.first made.vnodes (made.all ∙ ap (λ (n : ℕ). n + vnodes + 1) c.len.ensures) in
+    subst (λ (n : ℕ). LeavesServed Finds Names Takes n (BeginOver Takes (record { first = c.args.undrawn.making.first; vnodes = vnodes; passes = vec_len tables + vnodes + 1 }) copies (map (λ t. t.listed) tables.items) held) c.over_cluster.result) made.vnodes
+    (subst (λ (s : Size). LeavesServed Finds Names Takes cluster.vnodes (BeginOver Takes s copies (map (λ t. t.listed) tables.items) held) c.over_cluster.result) size c.over_cluster.ensures.served)

@@ -14,7 +14,7 @@ loop-pass-preserved g c = record {
   room = grind (arith, common_steps);
   tables = taken_one (λ s. s.hooking.table) _ _ _ _ _ _ _ c.loop-pass.invariant.tables c.in-Some-Some.ensures.items c.push_reserved.ensures.items c.new.ensures.table;
   readers = taken_one (λ s. s.hooking.hooks) _ _ _ _ _ _ _ c.loop-pass.invariant.readers c.in-Some-Some.ensures'.items c.push_reserved.ensures.items (c.new.ensures.hooks ∙ c.new-hooks.ensures);
-  placed = all_made_one (λ s. s.placement) (λ placement. placement ≡ by_digest c.args.copies) _ _ _ c.loop-pass.invariant.placed c.push_reserved.ensures.items c.by_digest.ensures;
+  placed = all_made_one (λ s. s.placement) (λ placement. placement ≡ by_digest c.args.spread.vnodes c.args.spread.copies) _ _ _ c.loop-pass.invariant.placed c.push_reserved.ensures.items c.placement.ensures;
 }
 
 pub returns-clause-tables : goal.returns-clause-tables

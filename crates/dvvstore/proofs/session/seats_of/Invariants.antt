@@ -12,5 +12,5 @@ invariant-loop-pass g l = record {
   room : vec_len l.initial.tables ≤ vec_capacity l.seats;
   tables : l.tables.items ++ reverse (map (λ s. s.hooking.table) l.seats.items) ≡ l.initial.tables.items;
   readers : l.readers.items ++ reverse (map (λ s. s.hooking.hooks) l.seats.items) ≡ l.initial.readers.items;
-  placed : AreAllPlaced l.copies (map (λ s. s.placement) l.seats.items);
+  placed : AreAllPlaced l.spread.vnodes l.spread.copies (map (λ s. s.placement) l.seats.items);
 }

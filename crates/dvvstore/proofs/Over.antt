@@ -1,0 +1,62 @@
+-- What stands in a folder at the end, by what each step of a store said.
+use Rattle.std.proofs.Common.{◌≡◌, ◌*◌, ◌<◌, ◌≤◌, ◌∙◌, ℕ, List, Option, Some, Result, Ok, Err, IfOk, sym, subst, refl}
+use Rattle.audit_cluster.specs.declared.ending.Verdict.{Verdict}
+use Rattle.bpf_helpers.specs.declared.sig.Entry.{Entry}
+use Rattle.cluster_stamps.specs.declared.view.Size.{Size}
+use Rattle.commands.specs.declared.server.Ended.{Ended}
+use Rattle.commands.specs.declared.server.Ended.TheVariants as ended
+use Rattle.hook_readers.specs.Edits.{Finds, Names}
+use Rattle.hook_sharing.specs.Taking.{Takes}
+use Rattle.kept_file.specs.Placed.{ArePlaced}
+use Rattle.kept_file.specs.declared.file.KeptFile.{KeptFile}
+use Rattle.kept_folder.specs.Steps.{Step}
+use Rattle.kept_folder.specs.declared.opening.Opened.{Opened}
+use Rattle.dvvstore.specs.Crews.{by_digest}
+use Rattle.dvvstore.specs.Keeping.{HasServed, IsLeftFolded, IsUnkept, Keeps}
+use Rattle.dvvstore.specs.Over.{IsKeptOver, IsOpened, KeptOver, ended_says}
+use Rattle.dvvstore.specs.Visits.{BeginOver}
+use Rattle.dvvstore.specs.declared.crew.running.Served.{Served}
+use Rattle.dvvstore.specs.declared.network.Said.{Said}
+
+module _ {F : Type 0} (finds : F → List ℕ → Option (List ℕ) → Type 0) (does : F → Step → F → Type 0) where
+  one_kept : (minute : ℕ) (tables : List (List Entry)) (old mid new : F) (opened : Opened) (size : Size) (placed : List KeptFile) (served : Served) (said : Ended Said) → IsOpened finds does minute old opened mid
+      → size.first ≡ opened.number * 256 → 0 < size.vnodes → size.vnodes ≤ 16 → ArePlaced (by_digest size.vnodes opened.held.settings.copies) opened.held.files.items placed
+      → IsLeftFolded (Some mid) size.first size.vnodes placed served
+      → HasServed Finds Names Takes size.vnodes (BeginOver Takes size opened.held.settings.copies tables (Some opened.held.hooks.items)) served
+      → ended_says said ≡ served.closed.said → Keeps finds does opened.number served mid new said → KeptOver finds does minute tables old new said
+  one_kept minute tables old mid new opened size placed served (ended.Kept said) opens first some many places begins serves says puts = record {
+    opened = opened;
+    mid = mid;
+    opens = opens;
+    size = size;
+    first = first;
+    some = some;
+    many = many;
+    placed = placed;
+    places = places;
+    served = served;
+    begins = begins;
+    serves = serves;
+    puts = puts;
+    says = says;
+  }
+  one_kept minute tables old mid new opened size placed served (ended.Unkept said) opens first some many places begins serves says puts = tt
+
+  -- what a stop wrote
+  pub kept_over : (minute : ℕ) (tables : List (List Entry)) (old mid new : F) (opened : Opened) (size : Size) (placed : List KeptFile) (served : Served) {E : Type 0} (came : Result (Ended Said) E)
+      → IsOpened finds does minute old opened mid → size.first ≡ opened.number * 256 → 0 < size.vnodes → size.vnodes ≤ 16
+      → ArePlaced (by_digest size.vnodes opened.held.settings.copies) opened.held.files.items placed → IsLeftFolded (Some mid) size.first size.vnodes placed served
+      → HasServed Finds Names Takes size.vnodes (BeginOver Takes size opened.held.settings.copies tables (Some opened.held.hooks.items)) served
+      → IfOk came (λ e. ended_says e ≡ served.closed.said) → IfOk came (Keeps finds does opened.number served mid new) → IfOk came (KeptOver finds does minute tables old new)
+  kept_over minute tables old mid new opened size placed served (Ok said) opens first some many places begins serves says puts =
+      one_kept minute tables old mid new opened size placed served said opens first some many places begins serves says puts
+  kept_over minute tables old mid new opened size placed served (Err why) opens first some many places begins serves says puts = puts
+
+  not_kept : (minute : ℕ) (tables : List (List Entry)) (old new : F) (said : Ended Said) → IsUnkept said → KeptOver finds does minute tables old new said
+  not_kept minute tables old new (ended.Kept said) none = absurd none
+  not_kept minute tables old new (ended.Unkept said) none = tt
+
+  -- nothing is claimed of what wasn't kept
+  pub lost_over : (minute : ℕ) (tables : List (List Entry)) (old new : F) {E : Type 0} (came : Result (Ended Said) E) → IfOk came (λ e. IsUnkept e) → IfOk came (KeptOver finds does minute tables old new)
+  lost_over minute tables old new (Ok said) none = not_kept minute tables old new said none
+  lost_over minute tables old new (Err why) none = none

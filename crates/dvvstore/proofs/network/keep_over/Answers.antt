@@ -1,0 +1,37 @@
+use Rattle.std.proofs.Common.{◌*◌, ◌+◌, map, refl, vec_len}
+use Rattle.cluster_stamps.specs.declared.view.Size.{Size}
+use Rattle.dvvstore.proofs.Over.{kept_over, lost_over}
+use Rattle.dvvstore.proofs.Staying.{refused_so, unserved_so}
+use Rattle.dvvstore.proofs.Told.{kept_where_told}
+use Rattle.dvvstore.proofs.network.keep_over.Goals as goal
+
+pub returns-in-Ok-Kept-clause-told : goal.returns-in-Ok-Kept-clause-told
+returns-in-Ok-Kept-clause-told g c =
+    kept_where_told (g.O.Write.contents c.args.out.now) (g.O.Write.contents c.live.new.out) (g.O.Write.contents c.finish.new.out) c.finish.result c.in-Ok-Kept.ensures.told c.finish.ensures.told
+
+pub returns-in-Ok-Lost-clause-told : goal.returns-in-Ok-Lost-clause-told
+returns-in-Ok-Lost-clause-told g c =
+    kept_where_told (g.O.Write.contents c.args.out.now) (g.O.Write.contents c.live.new.out) (g.O.Write.contents c.lose.new.out) c.lose.result c.in-Ok-Lost.ensures.told c.lose.ensures.told
+
+pub returns-clause-refused : goal.returns-clause-refused
+returns-clause-refused g c = refused_so c.in-Err-live.why _ (g.O.Write.contents c.live.new.out) _ _ c.in-Err-live.ensures.told c.unserved.ensures.refused
+
+pub returns-clause-untold : goal.returns-clause-untold
+returns-clause-untold g c = unserved_so c.in-Err-live.why _ (g.O.Write.contents c.live.new.out) _ _ c.in-Err-live.ensures.told c.unserved.ensures.memory
+
+pub returns-in-Ok-Kept-clause-kept : goal.returns-in-Ok-Kept-clause-kept
+returns-in-Ok-Kept-clause-kept g c =
+    let finds = g.F.Folder.finds in
+    let does = g.F.Folder.does in
+    let opened = c.in-Ok.opened in
+    let did = c.in-Ok.ensures in
+    let spread = c.among.result in
+    let tables = map (λ t. t.listed) c.args.keeping.tables.items in
+    let size : Size = record { first = opened.number * 256; vnodes = spread.vnodes; passes = vec_len c.args.keeping.tables + spread.vnodes + 1 } in
+    let opens = record { read = did.read; files = did.files; hooks = did.hooks; set = did.settings; next = did.next; above = did.above; minute = did.minute; put = did.put } in
+    kept_over finds does c.args.keeping.minute tables c.args.folder.now c.open.new.folder c.finish.new.folder opened size c.in-Ok-held.held.files.items c.in-Ok-Kept.served c.finish.result
+    opens refl spread.ok.some spread.ok.many c.in-Ok-held.ensures.placed c.in-Ok-Kept.ensures.kept c.in-Ok-Kept.ensures.served c.finish.ensures.says c.finish.ensures.put
+
+pub returns-in-Ok-Lost-clause-kept : goal.returns-in-Ok-Lost-clause-kept
+returns-in-Ok-Lost-clause-kept g c =
+    lost_over g.F.Folder.finds g.F.Folder.does c.args.keeping.minute (map (λ t. t.listed) c.args.keeping.tables.items) c.args.folder.now c.open.new.folder c.lose.result c.lose.ensures.unkept

@@ -1,7 +1,0 @@
-use Rattle.std.proofs.Common.{◌+◌}
-use Rattle.kept_restore.proofs.Loading.{AreLoading}
-use Rattle.kept_restore.proofs.loads.load.Given as goal
-
--- those before were merged
-abbrev pub invariant-loop-place : goal.invariant-loop-place
-invariant-loop-place g l = AreLoading l.fn.pass l.pass (l.cluster.first + l.index) l.records l.place
