@@ -1,5 +1,8 @@
 //! The calls on the store's hooks.
 
+ghost use Rattle.std.specs.Prelude.{◌≡◌, ◌⊎◌, Err, IfErr, Ok, OnErr, OnOk};
+ghost use Rattle.hook_registry.specs.Changes.{Install};
+ghost use Rattle.hook_registry.specs.declared.fault.HookFault.{HookFault as OneFault};
 ghost use Rattle.server_store.specs.Changes.{Installs, Removes, Names, Binds};
 ghost use Rattle.server_store.specs.View.{shown};
 
@@ -7,9 +10,11 @@ use crate::bindings::bindings_of;
 use crate::store::Store;
 use bpf_admission::{Refusal, admit_image};
 use bpf_image::ImageKind;
+use bpf_verifier::Verified;
 use hook_registry::{HookChanges, HookFault, Hooks, NameFault};
 use http_request::Change;
 use key_state::Bytes;
+use std::alloc::Global;
 use std::sync::Arc;
 
 impl<P, H: HookChanges> Store<P, H> {
@@ -23,16 +28,7 @@ impl<P, H: HookChanges> Store<P, H> {
             Ok(verified) => verified,
             Err(refusal) => return Err(refusal),
         };
-        let Ok(program) = Arc::new(self.alloc, verified) else {
-            return Err(Refusal::NoMemory);
-        };
-        let Ok(name) = name.copy() else {
-            return Err(Refusal::NoMemory);
-        };
-        match self.hooking.hooks.install(name, program) {
-            Ok(()) => Ok(()),
-            Err(_) => Err(Refusal::NoMemory),
-        }
+        install_program(self.alloc, &mut self.hooking.hooks, name, verified)
     }
 
     /// Takes a name from its hook. What is bound to the name stays bound to it.
@@ -68,5 +64,28 @@ impl<P, H: Hooks> Store<P, H> {
         ensures { Names H.names (shown self.old.peers self.old.hooking.hooks self.old.hooking.table.listed self.old.placement self.old.noted.kinds) bucket.now kind result (shown self.new.peers self.new.hooking.hooks self.new.hooking.table.listed self.new.placement self.new.noted.kinds) }
     {
         self.hooking.hooks.bound(bucket, kind)
+    }
+}
+
+/// Gives a program a name among hooks, in place of the program that had it. The refusal is want of memory: here, or of the hooks.
+pub fn install_program<H: HookChanges>(
+    alloc: Global,
+    hooks: &mut H,
+    name: &Bytes,
+    program: Verified,
+) -> Result<(), Refusal>
+    ensures given { OnOk result (H.takes hooks.old (Install name.now program) (Ok tt) hooks.new) }
+    ensures refused { OnErr result ((hooks.new ≡ hooks.old) ⊎ ((fault : OneFault) × H.takes hooks.old (Install name.now program) (Err fault) hooks.new)) }
+    ensures why { IfErr result (λ why. why ≡ Refusal.NoMemory) }
+{
+    let Ok(program) = Arc::new(alloc, program) else {
+        return Err(Refusal::NoMemory);
+    };
+    let Ok(name) = name.copy() else {
+        return Err(Refusal::NoMemory);
+    };
+    match hooks.install(name, program) {
+        Ok(()) => Ok(()),
+        Err(_) => Err(Refusal::NoMemory),
     }
 }

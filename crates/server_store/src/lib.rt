@@ -10,5 +10,6 @@ mod noting;
 mod store;
 
 pub use bindings::bindings_of;
+pub use hooking::install_program;
 pub use notes::NotingBackend;
 pub use store::{Read, Store};
