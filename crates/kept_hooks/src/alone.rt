@@ -1,14 +1,12 @@
 //! The hooks of a store that begins from a list, before it has keys.
 
-ghost use Rattle.std.specs.Prelude.{◌≡◌, ◌++◌, ◌∷◌, [], true, Ok, OnOk};
-ghost use Rattle.hook_registry.specs.Changes.{Install};
+ghost use Rattle.std.specs.Prelude.{◌≡◌, ◌++◌, ◌∷◌, [], true, OnOk};
 ghost use Rattle.kept_hooks.specs.Alone.{Changes, alone_of};
 
 use crate::list::Requests;
 use crate::refused::{RefusedHook, let_go, stand_in_of};
 use bpf_admission::{Refusal, admit_image};
 use bpf_helpers::Sigs;
-use bpf_verifier::Verified;
 use dvv::{Clock, Dot};
 use hook_registry::{HookChanges, HookFault, NameFault};
 use http_connection::Backend;
@@ -16,9 +14,8 @@ use http_request::Change;
 use http_response::Bound;
 use key_state::{Bytes, Content, Key, KeyState};
 use quorum::QuorumFault;
-use server_store::bindings_of;
+use server_store::{bindings_of, install_program};
 use std::alloc::Global;
-use std::sync::Arc;
 
 /// The hooks of a store, before it has keys: they may be changed, each change is written down, and nothing is read or written.
 #[derive(Drop)]
@@ -83,13 +80,13 @@ impl<H: HookChanges> Backend for HooksAlone<'_, H> {
     fn install(&mut self, name: &Bytes, image: &Bytes) -> Result<(), Refusal> {
         match admit_image(self.alloc, image.as_slice(), self.sigs) {
             Ok(verified) => {
-                give(self.alloc, self.hooks, name, verified)?;
+                install_program(self.alloc, self.hooks, name, verified)?;
                 let_go(&mut self.refused, name);
             }
             Err(Refusal::NoMemory) => return Err(Refusal::NoMemory),
             Err(refusal) => {
                 let verified = stand_in_of(self.alloc, image, self.sigs)?;
-                give(self.alloc, self.hooks, name, verified)?;
+                install_program(self.alloc, self.hooks, name, verified)?;
                 let_go(&mut self.refused, name);
                 refuse(&mut self.refused, name, refusal)?;
             }
@@ -119,24 +116,6 @@ impl<H: HookChanges> Backend for HooksAlone<'_, H> {
         self.hooks.bind(bucket, &bindings)?;
         self.requests.bind(bucket, precommit, resolver);
         Ok(())
-    }
-}
-
-/// Gives a program a name.
-fn give<H: HookChanges>(
-    alloc: Global,
-    hooks: &mut H,
-    name: &Bytes,
-    verified: Verified,
-) -> Result<(), Refusal>
-    ensures { OnOk result (H.takes hooks.old (Install name.now verified) (Ok tt) hooks.new) }
-{
-    let (Ok(program), Ok(name)) = (Arc::new(alloc, verified), name.copy()) else {
-        return Err(Refusal::NoMemory);
-    };
-    match hooks.install(name, program) {
-        Ok(()) => Ok(()),
-        Err(_) => Err(Refusal::NoMemory),
     }
 }
 
