@@ -1,2 +1,3 @@
 pub mod Growing
 pub mod ReadLines
+pub mod Asked

@@ -1,11 +1,12 @@
 -- Scripts whose events can be run, and the lines that they were read from (this store's profile).
-use Rattle.std.specs.Prelude.{◌≡◌, ℕ, ◌+◌, ◌-◌, ◌<◌, ◌≤◌, ◌==◌, Bool, true, false, if◌then◌else◌, ◌++◌, ◌∷◌, [], List, length, take, count_by}
+use Rattle.std.specs.Prelude.{◌≡◌, Option, None, Some, ℕ, ◌+◌, ◌-◌, ◌<◌, ◌≤◌, ◌==◌, Bool, true, false, if◌then◌else◌, ◌++◌, ◌∷◌, [], List, length, take, count_by}
 use Rattle.bpf_helpers.specs.declared.sig.Entry.{Entry}
 use Rattle.script_lines.specs.Lines.{lines_in, is_passed_over}
 use Rattle.script_events.specs.declared.script.Script.{Script}
 use Rattle.script_events.specs.declared.script.Answered.{Answered}
 use Rattle.script_events.specs.declared.script.Answered.TheVariants as answered
 use Rattle.world.specs.declared.event.Event.{Event}
+use Rattle.world.specs.declared.event.Event.TheVariants.{Get, Summarize, Send, SendPart, Dump, ResolveRead}
 use Rattle.script_events.specs.declared.names.Sort.{Sort}
 use Rattle.script_events.specs.declared.names.Sort.TheVariants as sort
 use Rattle.world.specs.Running.{AreRunnableFrom, IsGetAt, IsSummaryAt, IsMessageAt, IsDumpAt, IsRunAt}
@@ -63,3 +64,14 @@ IsOfSort sort.Message events place = IsMessageAt events place
 IsOfSort sort.Dump events place = IsDumpAt events place
 IsOfSort sort.Run events place = IsRunAt events place
 IsOfSort sort.Other events place = Unit {0}
+
+-- what an event is, as far as names may ask for it
+abbrev pub sort_of : Option Event → Sort
+sort_of None = sort.Other
+sort_of (Some (Get vnode key)) = sort.Get
+sort_of (Some (Summarize vnode key)) = sort.Summary
+sort_of (Some (Send vnode key)) = sort.Message
+sort_of (Some (SendPart vnode key summary)) = sort.Message
+sort_of (Some (Dump vnode)) = sort.Dump
+sort_of (Some (ResolveRead get hook)) = sort.Run
+sort_of (Some other) = sort.Other

@@ -2,25 +2,38 @@
 
 ghost use Rattle.std.specs.Prelude.{◌≡◌, ◌+◌, ◌<◌, ℕ, true, false, List, Some, IfOk, OnOk, IsTrue, MatchOption, ◌↔◌};
 ghost use Rattle.bpf_helpers.specs.declared.sig.Entry.{Entry};
-ghost use Rattle.script_events.specs.Scripts.{IsRunnableFrom, lines_of};
+ghost use Rattle.script_events.specs.Asking.{AddsOnly, Counts, Delivers, IsHad, Loads, Puts, content_of, reading_of, sim_key};
+ghost use Rattle.script_events.specs.Scripts.{IsOneMore, IsRunnableFrom, lines_of};
 ghost use Rattle.world.specs.Running.{IsUsed, IsEarlierContext};
 ghost use Rattle.world.specs.declared.event.Event.{Event};
 
 use crate::names::{Sort, found};
 use crate::reading::Reader;
 use crate::script::{Answered, MAX_VNODES, push, push_told};
-use crate::spelling::{clock_of, content_of, key_of};
-use context_token::TokenFault;
+use crate::spelling::{content_of, key_of};
+use context_token::{TokenFault, read_bytes};
 use dvv::Clock;
 use script_lines::{BadLine, Context};
 use std::alloc::AllocError;
 use world::{Event, Seen};
+
+/// What a put's word comes to.
+#[derive(Drop)]
+pub(crate) enum Had<'a> {
+    /// What its writer had seen.
+    Seen(Seen),
+    /// The fault of its token.
+    NoToken(TokenFault),
+    /// No get of that name.
+    NoGet(&'a [u8]),
+}
 
 impl<'a> Reader<'a> {
     /// The first line tells how many vnodes there are, and no other does.
     pub(crate) fn read_vnodes(&mut self, count: usize) -> Option<BadLine<'a>>
         ensures runnable { (used : List ℕ) (listed : List Entry) → IsRunnableFrom used listed self.old.script → IsRunnableFrom used listed self.new.script }
         ensures answers { MatchOption result (lines_of self.new.script ≡ lines_of self.old.script + 1) (λ _. lines_of self.new.script ≡ lines_of self.old.script) }
+        ensures asks { MatchOption result (Counts count (reading_of self.old) (reading_of self.new)) (λ _. self.new.script ≡ self.old.script) }
     {
         if self.script.vnodes != 0 {
             return Some(BadLine::VnodesAgain);
@@ -42,32 +55,42 @@ impl<'a> Reader<'a> {
     ) -> Result<Option<BadLine<'a>>, AllocError>
         ensures runnable { (used : List ℕ) (listed : List Entry) → IsRunnableFrom used listed self.old.script → OnOk result (IsRunnableFrom used listed self.new.script) }
         ensures answers { IfOk result (λ bad. MatchOption bad (lines_of self.new.script ≡ lines_of self.old.script + 1) (λ _. lines_of self.new.script ≡ lines_of self.old.script)) }
+        ensures asks { IfOk result (λ bad. MatchOption bad (Puts vnode key.now value.entry context.entry (reading_of self.old) (reading_of self.new)) (λ _. self.new.script ≡ self.old.script)) }
     {
         if vnode >= self.script.vnodes {
             return Ok(Some(BadLine::NoVnode(vnode)));
         }
-        let seen = match context {
-            Context::Nothing => Seen::Clock(Clock::new(self.alloc)),
-            Context::OfGet(name) => match found(
-                &self.script.events,
-                &self.names.events,
-                name,
-                Sort::Get,
-            ) {
-                Some(get) => Seen::Get(get),
-                None => return Ok(Some(BadLine::NoGet(name))),
-            },
-            Context::Token(text) => match clock_of(self.alloc, text) {
-                Ok(clock) => Seen::Clock(clock),
-                Err(TokenFault::NoMemory) => return Err(AllocError),
-                Err(fault) => {
-                    push_told(&mut self.script, Answered::Refused(fault))?;
-                    return Ok(None);
+        match self.seen_by(context)? {
+            Had::Seen(seen) => {
+                self.push_put(vnode, key, value, seen)?;
+                Ok(None)
+            }
+            Had::NoToken(fault) => {
+                push_told(&mut self.script, Answered::Refused(fault))?;
+                Ok(None)
+            }
+            Had::NoGet(name) => Ok(Some(BadLine::NoGet(name))),
+        }
+    }
+
+    /// What a put had seen, by its word.
+    fn seen_by(&self, context: Context<'a>) -> Result<Had<'a>, AllocError>
+        ensures { IfOk result (IsHad context.entry (reading_of self.now)) }
+    {
+        match context {
+            Context::Nothing => Ok(Had::Seen(Seen::Clock(Clock::new(self.alloc)))),
+            Context::OfGet(name) => {
+                match found(&self.script.events, &self.names.events, name, Sort::Get) {
+                    Some(get) => Ok(Had::Seen(Seen::Get(get))),
+                    None => Ok(Had::NoGet(name)),
                 }
+            }
+            Context::Token(text) => match read_bytes(self.alloc, text) {
+                Ok(clock) => Ok(Had::Seen(Seen::Clock(clock))),
+                Err(TokenFault::NoMemory) => Err(AllocError),
+                Err(fault) => Ok(Had::NoToken(fault)),
             },
-        };
-        self.push_put(vnode, key, value, seen)?;
-        Ok(None)
+        }
     }
 
     /// Adds a put whose writer had seen this.
@@ -81,6 +104,8 @@ impl<'a> Reader<'a> {
         requires within { vnode < self.old.script.vnodes }
         requires earlier { IsEarlierContext self.old.script.events.items seen }
         ensures runnable { (used : List ℕ) (listed : List Entry) → IsRunnableFrom used listed self.old.script → OnOk result (IsRunnableFrom used listed self.new.script) }
+        ensures more { OnOk result (IsOneMore self.old.script (Event.Put vnode (sim_key key.now) seen (content_of value.entry)) Answered.Reply self.new.script) }
+        ensures names { OnOk result (self.new.names ≡ self.old.names) }
         ensures answers { OnOk result (lines_of self.new.script ≡ lines_of self.old.script + 1) }
     {
         let key = key_of(self.alloc, key)?;
@@ -102,6 +127,7 @@ impl<'a> Reader<'a> {
     ) -> Result<Option<BadLine<'a>>, AllocError>
         ensures runnable { (used : List ℕ) (listed : List Entry) → IsRunnableFrom used listed self.old.script → OnOk result (IsRunnableFrom used listed self.new.script) }
         ensures answers { IfOk result (λ bad. MatchOption bad (lines_of self.new.script ≡ lines_of self.old.script + 1) (λ _. lines_of self.new.script ≡ lines_of self.old.script)) }
+        ensures asks { IfOk result (λ bad. MatchOption bad (Delivers name.now vnode (reading_of self.old) (reading_of self.new)) (λ _. self.new.script ≡ self.old.script)) }
     {
         let Some(message) = found(&self.script.events, &self.names.events, name, Sort::Message)
         else {
@@ -118,6 +144,7 @@ impl<'a> Reader<'a> {
     pub(crate) fn read_restart(&mut self, vnode: usize) -> Result<Option<BadLine<'a>>, AllocError>
         ensures runnable { (used : List ℕ) (listed : List Entry) → IsRunnableFrom used listed self.old.script → OnOk result (IsRunnableFrom used listed self.new.script) }
         ensures answers { IfOk result (λ bad. MatchOption bad (lines_of self.new.script ≡ lines_of self.old.script + 1) (λ _. lines_of self.new.script ≡ lines_of self.old.script)) }
+        ensures asks { IfOk result (λ bad. MatchOption bad (AddsOnly (reading_of self.old) (Event.Restart vnode) (reading_of self.new)) (λ _. self.new.script ≡ self.old.script)) }
     {
         if vnode >= self.script.vnodes {
             return Ok(Some(BadLine::NoVnode(vnode)));
@@ -136,6 +163,7 @@ impl<'a> Reader<'a> {
     ) -> Result<Option<BadLine<'a>>, AllocError>
         ensures runnable { (listed : List Entry) → IsRunnableFrom used.now listed self.old.script → OnOk result (IsRunnableFrom used.now listed self.new.script) }
         ensures answers { IfOk result (λ bad. MatchOption bad (lines_of self.new.script ≡ lines_of self.old.script + 1) (λ _. lines_of self.new.script ≡ lines_of self.old.script)) }
+        ensures asks { IfOk result (λ bad. MatchOption bad (Loads vnode incarnation name.now (reading_of self.old) (reading_of self.new)) (λ _. self.new.script ≡ self.old.script)) }
     {
         let Some(dump) = found(&self.script.events, &self.names.events, name, Sort::Dump) else {
             return Ok(Some(BadLine::NoDump(name)));

@@ -1,12 +1,12 @@
 //! What the names of a script's lines stand for.
 
-ghost use Rattle.std.specs.Prelude.{◌≡◌, ◌<◌, ℕ, Some, slice_get, IfSome};
-ghost use Rattle.script_events.specs.Scripts.{IsOfSort};
-ghost use Rattle.world.specs.declared.event.Event.{Event};
+ghost use Rattle.std.specs.Prelude.{◌≡◌, ◌≢◌, ℕ, None, Some, slice_get, IfNone, IfSome, OnOk};
+ghost use Rattle.script_events.specs.Asking.{StandsFor, at_name};
+ghost use Rattle.script_events.specs.Scripts.{IsOfSort, sort_of};
 
-use bpf_admission::Refusal;
+use std::alloc::AllocError;
 use std::collections::BTreeMap;
-use world::{Event, Hook};
+use world::Event;
 
 /// Places of events by name.
 pub(crate) type Places<'a> = BTreeMap<&'a [u8], usize>;
@@ -18,14 +18,7 @@ pub(crate) struct Names<'a> {
     pub(crate) events: Places<'a>,
     /// The latest run of a resolver on a get of that name, where no later one was refused.
     pub(crate) runs: Places<'a>,
-    /// The resolvers in files.
-    pub(crate) resolvers: Asked<'a>,
-    /// The pre-commit hooks in files.
-    pub(crate) checks: Asked<'a>,
 }
-
-/// What was answered of the images in files: the place of the first to have the hook, or the image's refusal.
-pub(crate) type Asked<'a> = BTreeMap<&'a [u8], Result<usize, Refusal>>;
 
 /// What an event is, as far as names may ask for it.
 #[derive(Clone, Copy, PartialEq, Eq)]
@@ -40,7 +33,7 @@ pub(crate) enum Sort {
 
 // What the event at a place is.
 fn sort_at(events: &[Event], place: usize) -> Sort
-    ensures { IsOfSort result events.now place }
+    ensures { result ≡ sort_of (slice_get events.now place) }
 {
     match events.get(place) {
         Some(Event::Get { .. }) => Sort::Get,
@@ -55,7 +48,9 @@ fn sort_at(events: &[Event], place: usize) -> Sort
 
 /// The place of the latest event of a name, where that is of a sort.
 pub(crate) fn found(events: &[Event], places: &Places<'_>, name: &[u8], sort: Sort) -> Option<usize>
-    ensures { IfSome result (IsOfSort sort events.now) }
+    ensures named { IfSome result (λ place. at_name places.now name.now ≡ Some place) }
+    ensures of_sort { IfSome result (IsOfSort sort events.now) }
+    ensures none { IfNone result ((place : ℕ) → at_name places.now name.now ≡ Some place → sort_of (slice_get events.now place) ≢ sort) }
 {
     let place = *places.get(name)?;
     if sort_at(events, place) == sort {
@@ -65,12 +60,21 @@ pub(crate) fn found(events: &[Event], places: &Places<'_>, name: &[u8], sort: So
     }
 }
 
-/// What a resolver's run at a place runs.
-pub(crate) fn hook_at(events: &[Event], place: usize) -> Option<&Hook>
-    ensures { IfSome result (λ hook. (get : ℕ) × (slice_get events.now place ≡ Some (Event.ResolveRead get hook.now))) }
+/// Has a name stand for a place.
+pub(crate) fn name_place<'a>(
+    places: &mut Places<'a>,
+    name: &'a [u8],
+    place: usize,
+) -> Result<(), AllocError>
+    ensures { OnOk result (StandsFor (at_name places.old) name.now (Some place) (at_name places.new)) }
 {
-    match events.get(place) {
-        Some(Event::ResolveRead { hook, .. }) => Some(hook),
-        _ => None,
-    }
+    places.insert(name, place)?;
+    Ok(())
+}
+
+/// Has a name stand for no place.
+pub(crate) fn unname_place(places: &mut Places<'_>, name: &[u8])
+    ensures { StandsFor (at_name places.old) name.now None (at_name places.new) }
+{
+    places.remove(name);
 }

@@ -1,9 +1,11 @@
 //! The lines of a script, read one after another.
 
-ghost use Rattle.std.specs.Prelude.{◌≡◌, ◌+◌, ◌<◌, Some, if◌then◌else◌, IfOk, OnOk, MatchOption};
+ghost use Rattle.std.specs.Prelude.{◌≡◌, ◌+◌, ◌++◌, ◌∷◌, [], ℕ, List, if◌then◌else◌, IfOk, OnOk, MatchOption};
 ghost use Rattle.script_lines.specs.Lines.{lines_in};
+ghost use Rattle.script_events.specs.Asking.{AreAllKnown, AreAnsweredBy, AreAnsweredUpTo, Asks, ComeTo, reading_of};
 ghost use Rattle.script_events.specs.Scripts.{IsRunnableFrom, lines_of, asks, AnswersFor, AnswersUpTo};
 
+use crate::hooking::FileHooks;
 use crate::images::Images;
 use crate::names::Names;
 use crate::script::Script;
@@ -28,15 +30,18 @@ impl<'a> Reader<'a> {
     ) -> Result<Option<(usize, BadLine<'a>)>, AllocError>
         requires runnable { IsRunnableFrom used.now (I.listed images.now) self.old.script }
         requires empty { lines_of self.old.script ≡ 0 }
+        requires start { ComeTo (I.found images.now) [] (reading_of self.old) }
         ensures runnable { OnOk result (IsRunnableFrom used.now (I.listed images.now) self.new.script) }
         ensures read { IfOk result (λ bad. MatchOption bad (AnswersFor self.new.script (lines_in bytes.now)) (λ at. AnswersUpTo self.new.script bytes.now at.0)) }
+        ensures asked { IfOk result (λ bad. MatchOption bad (AreAnsweredBy (I.found images.now) self.new.script (lines_in bytes.now)) (λ at. AreAnsweredUpTo (I.found images.now) self.new.script bytes.now at.0)) }
     {
+        let mut hooks = FileHooks::new(self.alloc);
         let mut number: usize = 0;
         let mut left = bytes;
         while let Some((line, rest)) = first_line(left) {
             left = rest;
             number += 1;
-            if let Some(why) = self.read(used, images, line)? {
+            if let Some(why) = self.read(used, images, &mut hooks, line)? {
                 return Ok(Some((number, why)));
             }
         }
@@ -48,15 +53,19 @@ impl<'a> Reader<'a> {
         &mut self,
         used: &[u16],
         images: &I,
+        hooks: &mut FileHooks<'a>,
         bytes: &'a [u8],
     ) -> Result<Option<BadLine<'a>>, AllocError>
-        requires { IsRunnableFrom used.now (I.listed images.now) self.old.script }
+        requires runnable { IsRunnableFrom used.now (I.listed images.now) self.old.script }
+        requires known { AreAllKnown (I.found images.now) (I.listed images.now) hooks.old }
+        ensures known { AreAllKnown (I.found images.now) (I.listed images.now) hooks.new }
         ensures runnable { OnOk result (IsRunnableFrom used.now (I.listed images.now) self.new.script) }
         ensures answers { IfOk result (λ bad. MatchOption bad (lines_of self.new.script ≡ lines_of self.old.script + (if asks bytes.now then 1 else 0)) (λ _. lines_of self.new.script ≡ lines_of self.old.script)) }
+        ensures asks { IfOk result (λ bad. MatchOption bad ((lines : List (List ℕ)) → ComeTo (I.found images.now) lines (reading_of self.old) → ComeTo (I.found images.now) (lines ++ bytes.now ∷ []) (reading_of self.new)) (λ _. self.new.script ≡ self.old.script)) }
     {
         match line_of(self.alloc, bytes)? {
             Spelling::PassedOver => Ok(None),
-            Spelling::Line(line) => self.read_line(used, images, line),
+            Spelling::Line(line) => self.read_line(used, images, hooks, line),
             Spelling::Bad(why) => Ok(Some(BadLine::Misspelled(why))),
         }
     }
@@ -66,11 +75,15 @@ impl<'a> Reader<'a> {
         &mut self,
         used: &[u16],
         images: &I,
+        hooks: &mut FileHooks<'a>,
         line: Line<'a>,
     ) -> Result<Option<BadLine<'a>>, AllocError>
-        requires { IsRunnableFrom used.now (I.listed images.now) self.old.script }
+        requires runnable { IsRunnableFrom used.now (I.listed images.now) self.old.script }
+        requires known { AreAllKnown (I.found images.now) (I.listed images.now) hooks.old }
+        ensures known { AreAllKnown (I.found images.now) (I.listed images.now) hooks.new }
         ensures runnable { OnOk result (IsRunnableFrom used.now (I.listed images.now) self.new.script) }
         ensures answers { IfOk result (λ bad. MatchOption bad (lines_of self.new.script ≡ lines_of self.old.script + 1) (λ _. lines_of self.new.script ≡ lines_of self.old.script)) }
+        ensures asks { IfOk result (λ bad. MatchOption bad (Asks (I.found images.now) line.entry (reading_of self.old) (reading_of self.new)) (λ _. self.new.script ≡ self.old.script)) }
     {
         match line {
             Line::Vnodes(count) => Ok(self.read_vnodes(count)),
@@ -100,14 +113,14 @@ impl<'a> Reader<'a> {
                 incarnation,
                 name,
             } => self.read_load(used, vnode, incarnation, name),
-            Line::Resolve { name, file } => self.read_resolve(images, name, file),
+            Line::Resolve { name, file } => self.read_resolve(images, hooks, name, file),
             Line::Commit { vnode, name } => self.read_commit(vnode, name),
             Line::Check {
                 vnode,
                 key,
                 value,
                 file,
-            } => self.read_check(images, vnode, key, value, file),
+            } => self.read_check(images, hooks, (vnode, key), value, file),
         }
     }
 }

@@ -4,11 +4,12 @@ ghost use Rattle.std.specs.Prelude.{◌≡◌, ◌+◌, ◌<◌, ℕ, false, Lis
 ghost use Rattle.bpf_helpers.specs.declared.sig.Entry.{Entry};
 ghost use Rattle.script_lines.specs.Lines.{lines_in};
 ghost use Rattle.script_events.specs.Scripts.{IsRunnable, IsRunnableFrom, IsOneMore, tells_event, lines_of, AnswersFor, AnswersUpTo};
+ghost use Rattle.script_events.specs.Asking.{AreAnsweredBy, AreAnsweredUpTo, IsToldMore};
 ghost use Rattle.world.specs.declared.event.Event.{Event};
 
 use crate::check::Check;
 use crate::images::Images;
-use crate::names::{Asked, Names, Places};
+use crate::names::{Names, Places};
 use crate::reading::Reader;
 use bpf_admission::Refusal;
 use context_token::TokenFault;
@@ -58,6 +59,7 @@ pub fn parse<'a, I: Images>(
 ) -> Result<(Script, Option<BadAt<'a>>), AllocError>
     ensures runnable { IfOk result (λ parsed. IsRunnable (I.listed images.now) parsed.0) }
     ensures read { IfOk result (λ parsed. MatchOption parsed.1 (AnswersFor parsed.0 (lines_in bytes.now)) (λ bad. AnswersUpTo parsed.0 bytes.now bad.line)) }
+    ensures asked { IfOk result (λ parsed. MatchOption parsed.1 (AreAnsweredBy (I.found images.now) parsed.0 (lines_in bytes.now)) (λ bad. AreAnsweredUpTo (I.found images.now) parsed.0 bytes.now bad.line)) }
 {
     parse_from(alloc, &[0], bytes, images)
 }
@@ -71,6 +73,7 @@ pub fn parse_from<'a, I: Images>(
 ) -> Result<(Script, Option<BadAt<'a>>), AllocError>
     ensures runnable { IfOk result (λ parsed. IsRunnableFrom used.now (I.listed images.now) parsed.0) }
     ensures read { IfOk result (λ parsed. MatchOption parsed.1 (AnswersFor parsed.0 (lines_in bytes.now)) (λ bad. AnswersUpTo parsed.0 bytes.now bad.line)) }
+    ensures asked { IfOk result (λ parsed. MatchOption parsed.1 (AreAnsweredBy (I.found images.now) parsed.0 (lines_in bytes.now)) (λ bad. AreAnsweredUpTo (I.found images.now) parsed.0 bytes.now bad.line)) }
 {
     let mut reader = Reader {
         alloc,
@@ -82,8 +85,6 @@ pub fn parse_from<'a, I: Images>(
         names: Names {
             events: Places::new(alloc),
             runs: Places::new(alloc),
-            resolvers: Asked::new(alloc),
-            checks: Asked::new(alloc),
         },
     };
     let bad = match reader.read_lines(used, images, bytes)? {
@@ -118,6 +119,7 @@ pub(crate) fn push_answered(
 /// Adds what a line prints that tells of no event.
 pub(crate) fn push_told(script: &mut Script, answered: Answered) -> Result<(), AllocError>
     requires { tells_event answered ≡ false }
+    ensures told { OnOk result (IsToldMore script.old answered script.new) }
     ensures runnable { (used : List ℕ) (listed : List Entry) → IsRunnableFrom used listed script.old → OnOk result (IsRunnableFrom used listed script.new) }
     ensures answers { OnOk result (lines_of script.new ≡ lines_of script.old + 1) }
 {

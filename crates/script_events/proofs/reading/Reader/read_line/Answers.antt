@@ -1,4 +1,4 @@
 use Rattle.script_events.proofs.reading.Reader.read_line.Goals as goal
 
 pub returns-in-Vnodes-clause-runnable : goal.returns-in-Vnodes-clause-runnable
-returns-in-Vnodes-clause-runnable g c = c.read_vnodes.ensures.runnable _ _ c.requires
+returns-in-Vnodes-clause-runnable g c = c.read_vnodes.ensures.runnable _ _ c.requires.runnable

@@ -1,12 +1,22 @@
+use Rattle.std.proofs.Common.{refl}
+use Rattle.script_events.proofs.Asked.{nothing_known}
 use Rattle.script_events.proofs.ReadLines.{begins, goes_on, ends, of_none}
 use Rattle.script_events.proofs.reading.Reader.read_lines.Goals as goal
 
 pub loop-line-init : goal.loop-line-init
-loop-line-init g c = begins _ _ _ _ c.requires.runnable c.requires.empty
+loop-line-init g c = record {
+  so_far = begins _ _ _ _ _ c.requires.runnable c.requires.empty c.requires.start;
+  known = (nothing_known _ _ _ _ c.new.ensures.resolvers, nothing_known _ _ _ _ c.new.ensures.checks);
+}
 
 pub loop-line-preserved : goal.loop-line-preserved
-loop-line-preserved g c =
-    goes_on _ _ _ _ _ _ _ _ _ c.loop-line.invariant c.in-Some.ensures.lines c.in-Some.ensures.shorter c.in_ok-why.ensures.runnable (of_none _ _ _ c.in_default-2.not-Some c.in_ok-why.ensures.answers)
+loop-line-preserved g c = record {
+  so_far = goes_on _ _ _ _ _ _ _ _ _ _ _ c.loop-line.invariant.so_far c.in-Some.ensures.lines c.in-Some.ensures.shorter c.in_ok-why.ensures.runnable (of_none _ _ _ c.in_default-2.not-Some c.in_ok-why.ensures.answers) (of_none _ _ _ c.in_default-2.not-Some c.in_ok-why.ensures.asks);
+  known = c.in_ok-why.ensures.known;
+}
 
 pub returns-clause-read : goal.returns-clause-read
-returns-clause-read g c = ends _ _ _ _ _ _ c.loop-line.invariant c.in_default.ensures.lines
+returns-clause-read g c = (ends _ _ _ _ _ _ _ c.loop-line.invariant.so_far c.in_default.ensures.lines).0
+
+pub returns-clause-asked : goal.returns-clause-asked
+returns-clause-asked g c = let all = (ends _ _ _ _ _ _ _ c.loop-line.invariant.so_far c.in_default.ensures.lines).1 in (_, all, refl)
