@@ -8,7 +8,7 @@ use Rattle.script_events.proofs.reading.Reader.read_load.Goals as goal
 pub returns-clause-runnable : goal.returns-clause-runnable
 returns-clause-runnable c listed runnable = one_more _ _ _ _ _ _ runnable (
   omega arith,
-  subst (λ (es : List Event). IsDumpAt es c.in-Some.dump) c.deref.ensures.value c.in-Some.ensures,
+  subst (λ (es : List Event). IsDumpAt es c.in-Some.dump) c.deref.ensures.value c.in-Some.ensures.of_sort,
   λ was. absurd (let told = c.is_used.ensures.1 (subst (λ (es : List Event). IsUsed c.args.used.now es c.args.vnode c.args.incarnation) (sym c.deref-2.ensures.value) was) in let no = c.if-is_used.false in cc),
 )
     c.in_ok-push.ensures.more refl
