@@ -5,7 +5,8 @@ to the next one are what it prints. Tags and contexts differ from start to start
 name for the one that this server gives in its place. A block without `$ ` is not run. Every document has a server and a copy of the
 repository of its own, and begins at its top.
 
-The page of trials is compared with the trials: it has a row for each, with the promise that stands there.
+The page of trials is compared with the trials: it has a row for each, with the promise that stands there. What the program prints of
+its version and its toolchain is compared with CHANGELOG.md and README.md.
 """
 from __future__ import annotations
 
@@ -28,6 +29,7 @@ FULL = SHORT = Whole()
 # What a document needs besides bash and curl.
 DOCUMENTS: dict[str, tuple[str, ...]] = {"README.md": (), "docs/HTTP.md": (), "docs/HOOKS.md": ("clang", "llvm-objdump", "llvm-objcopy")}
 TESTING = "docs/TESTING.md"
+CHANGES = "CHANGELOG.md"
 BLOCK = re.compile(r"(?:^    .*\n(?:(?:^ *\n)*(?=^    ))?)+", re.M)
 LENGTH = re.compile(r"Content-Length: \d+")
 TAG = r"\d{6,10}-\d+"
@@ -162,6 +164,16 @@ def try_page_of_trials(found: Findings) -> None:
     found.hold(set(rows) <= set(runner.NAMES), f"{TESTING} has rows of trials alone: {set(rows) - set(runner.NAMES)}")
 
 
+def try_version(found: Findings, program: Path) -> None:
+    """Whether the program's version is the latest that the list of changes has, and its toolchain the one that README.md names."""
+    told = subprocess.run([program, "version"], capture_output=True, text=True, timeout=END_SECONDS).stdout
+    lines = dict(line.split(" ", 1) for line in told.splitlines())
+    versions = re.findall(r"^## \[(\d+\.\d+\.\d+)\]", (TOP / CHANGES).read_text(encoding="utf-8"), re.M)
+    found.hold(lines.get("dvvstore") in versions[:1], f"{CHANGES} has the version that the program prints last: {lines.get('dvvstore')}")
+    readme = " ".join((TOP / "README.md").read_text(encoding="utf-8").split())
+    found.hold(f"`{lines.get('toolchain')}`" in readme, f"README.md names the toolchain that the program prints: {lines.get('toolchain')}")
+
+
 def run(program: Path, seed: int, size: Whole) -> Result:
     tool("curl")
     found, counts = Findings(), []
@@ -172,4 +184,5 @@ def run(program: Path, seed: int, size: Whole) -> Result:
         else:
             counts.append(try_document(found, name, program))
     try_page_of_trials(found)
+    try_version(found, program)
     return found.result(f"{sum(counts)} commands of {len(counts)} documents")

@@ -12,6 +12,7 @@ use Rattle.bpf_helpers.specs.declared.sig.Entry.{Entry}
 use Rattle.script_run.specs.Printing.{Simulated}
 use Rattle.commands.specs.Audited.{audit_text, audit_status}
 use Rattle.commands.specs.Help.{help_text}
+use Rattle.commands.specs.Version.{version_text}
 use Rattle.commands.specs.declared.outcome.Outcome.{Outcome}
 use Rattle.commands.specs.declared.server.Ended.{Ended}
 use Rattle.commands.specs.declared.server.Ended.TheVariants.{Kept, Unkept}
@@ -91,4 +92,9 @@ pub data Served (before after : Option (List ℕ)) (status : ℕ) : Type 0 where
 -- the commands were told
 pub record Helped (before after : Option (List ℕ)) (status : ℕ) : Type 0 where
   pub told : Appends before after help_text
+  pub status_is : status ≡ 0
+
+-- the version was told
+pub record Versioned (before after : Option (List ℕ)) (status : ℕ) : Type 0 where
+  pub told : Appends before after version_text
   pub status_is : status ≡ 0

@@ -13,3 +13,4 @@ help_text =
     ++ line (codes "dvvstore serve ADDR WORKERS [COUNT] [copies N]   serves a store over HTTP: 1 to 16 workers, COUNT connections or no end, 1 to 3 copies")
     ++ line (codes "dvvstore keep FOLDER ADDR WORKERS [COUNT]        serves a store in the same way, and keeps what it holds in FOLDER")
     ++ line (codes "dvvstore help                                    prints these lines")
+    ++ line (codes "dvvstore version                                 prints the version of the program, of what it writes, and of its toolchain")

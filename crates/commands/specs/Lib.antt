@@ -5,6 +5,8 @@ pub mod Verdict
 pub mod Words
 pub mod Audited
 pub mod Help
+pub mod Hooks
+pub mod Version
 pub mod Records
 pub mod Dumped
 pub mod Command

@@ -6,7 +6,7 @@ use Rattle.std.specs.Str.Parse.{digits_value}
 use Rattle.std.specs.Cmp.Lexicographic.{pointwise}
 use Rattle.std.specs.Borrow.{Bor}
 use Rattle.commands.specs.declared.words.Request.{Request}
-use Rattle.commands.specs.declared.words.Request.TheVariants.{Help, Run, Verify, Explain, Sim, Dump, Load, Serve, Keep}
+use Rattle.commands.specs.declared.words.Request.TheVariants.{Help, Version, Run, Verify, Explain, Sim, Dump, Load, Serve, Keep}
 
 -- a decimal of 1 or more, without sign and leading zeros
 abbrev pub is_count : List ℕ → Bool
@@ -112,5 +112,8 @@ request_of (name ∷ file ∷ []) =
     else (if pointwise nat_eq name.now (codes "sim") then Some (Sim file) else None))
 request_of (name ∷ []) =
     if pointwise nat_eq name.now (codes "help") then Some Help
-    else (if pointwise nat_eq name.now (codes "--help") then Some Help else None)
+    else (if pointwise nat_eq name.now (codes "--help") then Some Help
+    else (if pointwise nat_eq name.now (codes "version") then Some Version
+    else (if pointwise nat_eq name.now (codes "--version") then Some Version
+    else (if pointwise nat_eq name.now (codes "-V") then Some Version else None))))
 request_of other = None

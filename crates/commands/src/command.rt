@@ -2,7 +2,7 @@
 ghost use Rattle.std.specs.Prelude.{◌≡◌, ℕ, ◌<◌, ◌≤◌, List, Option, OnOk, IfOk, IsErr, vec_len};
 ghost use Rattle.std.specs.Borrow.{Bor};
 ghost use Rattle.commands.specs.Words.{request_of};
-ghost use Rattle.commands.specs.Command.{Explained, Helped, Judged, KeptFolder, Ran, Served, SimulatedFile};
+ghost use Rattle.commands.specs.Command.{Explained, Helped, Judged, KeptFolder, Ran, Served, SimulatedFile, Versioned};
 ghost use Rattle.commands.specs.Dumped.{DumpedFile, LoadedFile};
 
 use crate::audited::tell;
@@ -18,6 +18,7 @@ use crate::simulate::simulate;
 use crate::streams::Streams;
 use crate::tables::Tables;
 use crate::verify::verify;
+use crate::version::version;
 use crate::words::{Request, parse};
 use std::alloc::Global;
 use std::io::Write;
@@ -52,6 +53,7 @@ pub fn command<F: Files, S: Server, O: Write, E: Write>(
     ensures served { (addr : Bor (List ℕ)) (workers : ℕ) (count : Option ℕ) (copies : ℕ) → request_of words.now ≡ Some (Request.Serve addr workers count copies) → result < 2 → Served (O.contents streams.old.out) (O.contents streams.new.out) result }
     ensures kept { (folder addr : Bor (List ℕ)) (workers : ℕ) (count : Option ℕ) → request_of words.now ≡ Some (Request.Keep folder addr workers count) → result < 2 → KeptFolder (O.contents streams.old.out) (O.contents streams.new.out) result }
     ensures helped { request_of words.now ≡ Some Request.Help → result < 2 → Helped (O.contents streams.old.out) (O.contents streams.new.out) result }
+    ensures versioned { request_of words.now ≡ Some Request.Version → result < 2 → Versioned (O.contents streams.old.out) (O.contents streams.new.out) result }
     ensures wrong_words { request_of words.now ≡ None → result ≡ 2 }
     ensures untouched { request_of words.now ≡ None → streams.new.out ≡ streams.old.out }
 {
@@ -87,10 +89,12 @@ fn done<F: Files, S: Server, O: Write, E: Write>(
     ensures served { (addr : Bor (List ℕ)) (workers : ℕ) (count : Option ℕ) (copies : ℕ) → request_of words.now ≡ Some (Request.Serve addr workers count copies) → IfOk result (λ status. status < 2 → Served (O.contents streams.old.out) (O.contents streams.new.out) status) }
     ensures kept { (folder addr : Bor (List ℕ)) (workers : ℕ) (count : Option ℕ) → request_of words.now ≡ Some (Request.Keep folder addr workers count) → IfOk result (λ status. status < 2 → KeptFolder (O.contents streams.old.out) (O.contents streams.new.out) status) }
     ensures helped { request_of words.now ≡ Some Request.Help → IfOk result (λ status. status < 2 → Helped (O.contents streams.old.out) (O.contents streams.new.out) status) }
+    ensures versioned { request_of words.now ≡ Some Request.Version → IfOk result (λ status. status < 2 → Versioned (O.contents streams.old.out) (O.contents streams.new.out) status) }
     ensures wrong_words { request_of words.now ≡ None → IsErr result × (streams.new.out ≡ streams.old.out) }
 {
     match parse(words) {
         Some(Request::Help) => help(&mut streams.out),
+        Some(Request::Version) => version(&mut streams.out),
         Some(Request::Run { image, input }) => {
             run(alloc, &tables.first, image, input, files, &mut streams.out)
         }

@@ -16,7 +16,8 @@ dvvstore dump FILE SCRIPT V                      runs a script, and writes what 
 dvvstore load FILE INCARNATION SCRIPT            runs a script whose vnode 0 begins with the records of FILE\n\
 dvvstore serve ADDR WORKERS [COUNT] [copies N]   serves a store over HTTP: 1 to 16 workers, COUNT connections or no end, 1 to 3 copies\n\
 dvvstore keep FOLDER ADDR WORKERS [COUNT]        serves a store in the same way, and keeps what it holds in FOLDER\n\
-dvvstore help                                    prints these lines\n";
+dvvstore help                                    prints these lines\n\
+dvvstore version                                 prints the version of the program, of what it writes, and of its toolchain\n";
 
 /// Prints the commands, a line each, and gives the status, which is 0.
 pub fn help<O: Write>(out: &mut O) -> Result<u8, Failure>

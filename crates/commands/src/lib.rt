@@ -18,4 +18,5 @@ pub mod simulate;
 pub mod streams;
 pub mod tables;
 pub mod verify;
+pub mod version;
 pub mod words;

@@ -8,7 +8,7 @@ ghost use Rattle.bpf_helpers.specs.Shapes.{shape_of, written_shape};
 ghost use Rattle.bpf_helpers.specs.declared.sig.Entry.{Entry};
 ghost use Rattle.bpf_helpers.specs.Entries.{IsAdmitted};
 ghost use Rattle.bpf_helpers.specs.Answers.{IsCallableOn, AnswersOn};
-ghost use Rattle.commands.specs.Command.{Explained, Helped, Judged, KeptFolder, Ran, Served, SimulatedFile};
+ghost use Rattle.commands.specs.Command.{Explained, Helped, Judged, KeptFolder, Ran, Served, SimulatedFile, Versioned};
 ghost use Rattle.commands.specs.Dumped.{DumpedFile, LoadedFile};
 ghost use Rattle.commands.specs.Own.{one_number, shapes_of, own_shapes};
 ghost use Rattle.commands.specs.Words.{request_of};
@@ -74,6 +74,7 @@ pub fn command_with_helpers<F: Files, S: Server, O: Write, E: Write>(
     ensures served { (addr : Bor (List ℕ)) (workers : ℕ) (count : Option ℕ) (copies : ℕ) → request_of words.now ≡ Some (Request.Serve addr workers count copies) → IfOk result (λ status. status < 2 → Served (O.contents streams.old.out) (O.contents streams.new.out) status) }
     ensures kept { (folder addr : Bor (List ℕ)) (workers : ℕ) (count : Option ℕ) → request_of words.now ≡ Some (Request.Keep folder addr workers count) → IfOk result (λ status. status < 2 → KeptFolder (O.contents streams.old.out) (O.contents streams.new.out) status) }
     ensures helped { request_of words.now ≡ Some Request.Help → IfOk result (λ status. status < 2 → Helped (O.contents streams.old.out) (O.contents streams.new.out) status) }
+    ensures versioned { request_of words.now ≡ Some Request.Version → IfOk result (λ status. status < 2 → Versioned (O.contents streams.old.out) (O.contents streams.new.out) status) }
     ensures wrong_words { request_of words.now ≡ None → IfOk result (λ status. status ≡ 2) }
     ensures untouched { request_of words.now ≡ None → streams.new.out ≡ streams.old.out }
 {

@@ -2,6 +2,7 @@
 ghost use Rattle.std.specs.Prelude.{◌≤◌, IfOk};
 ghost use Rattle.bpf_helpers.specs.Entries.{AgreesWith};
 ghost use Rattle.commands.specs.Command.{SimulatedFile};
+ghost use Rattle.commands.specs.Hooks.{IsHookOf};
 
 use crate::failure::Failure;
 use crate::files::{Files, read_program};
@@ -26,9 +27,14 @@ pub(crate) struct FileImages<'a, F> {
 impl<F: Files> Images for FileImages<'_, F> {
     ghost listed = { λ images. images.sigs.now };
 
+    ghost found = { λ images file kind came. IsHookOf (F.held images.files.now file) images.sigs.now kind came };
+
     fn hook(&self, alloc: Global, file: &str, kind: ImageKind) -> Result<Verified, NoHook> {
         let bytes = read_program(self.files, alloc, file)?;
-        admit_hook(alloc, &bytes, kind, self.sigs).map_err(NoHook::Refused)
+        match admit_hook(alloc, &bytes, kind, self.sigs) {
+            Ok(hook) => Ok(hook),
+            Err(refusal) => Err(NoHook::Refused(refusal)),
+        }
     }
 }
 

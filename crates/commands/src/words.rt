@@ -4,11 +4,15 @@ ghost use Rattle.std.specs.Char.{is_ascii_digit};
 ghost use Rattle.std.specs.List.{list_all};
 ghost use Rattle.commands.specs.Words.{copies_by, count_of, four_words_of, incarnation_of, is_count, kept_by, number_of, request_of, served_by, three_words_of, vnode_of};
 
+use ring::MAX_COPIES;
+
 /// What the words ask for.
 #[derive(Clone, Copy)]
 pub enum Request<'a> {
     /// To print the commands.
     Help,
+    /// To print the version.
+    Version,
     /// To run the program in the file `image` on the bytes of the file `input`.
     Run {
         image: &'a str,
@@ -58,9 +62,6 @@ pub enum Request<'a> {
 /// The most workers.
 pub(crate) const MOST_WORKERS: u32 = 16;
 
-/// The most copies of a key.
-const MOST_COPIES: u32 = 3;
-
 /// How many copies of a key there are where no words ask for more.
 const USUAL_COPIES: u32 = 1;
 
@@ -71,6 +72,7 @@ pub fn parse<'a>(words: &[&'a str]) -> Option<Request<'a>>
     match words {
         [name] => match *name {
             "help" | "--help" => Some(Request::Help),
+            "version" | "--version" | "-V" => Some(Request::Version),
             _ => None,
         },
         [name, file] => match *name {
@@ -215,7 +217,7 @@ fn copies_in(word: &str, number: &str) -> Option<u32>
         return None;
     }
     match count_in(number) {
-        Some(copies) if copies <= MOST_COPIES => Some(copies),
+        Some(copies) if copies <= MAX_COPIES => Some(copies),
         _ => None,
     }
 }

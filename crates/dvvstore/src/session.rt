@@ -25,7 +25,6 @@ use kept_folder::Folder;
 use kept_hooks::Requests;
 use kept_restore::Loader;
 use quorum::Hooking;
-use ring::Placement;
 use shared_prefix::Naming;
 use std::alloc::{AllocError, Global};
 use std::hash::BuildHasher as _;

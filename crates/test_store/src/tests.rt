@@ -3,6 +3,7 @@
 mod altered;
 mod audits;
 mod exchanges;
+mod growths;
 mod hook_runs;
 mod late;
 mod losses;
@@ -14,3 +15,4 @@ mod seeds;
 mod shown;
 mod verdicts;
 mod watched;
+mod wide_places;

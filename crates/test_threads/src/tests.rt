@@ -13,6 +13,7 @@ mod refusals;
 mod requests;
 mod rounds;
 mod running;
+mod seeds;
 mod sharing;
 mod standing;
 mod watching;
