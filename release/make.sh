@@ -5,18 +5,24 @@
 #     release/make.sh --pack PROGRAM [FOLDER]    packs a program that was built elsewhere; nothing is proved then
 #
 # FOLDER, release/out where none is named, then has dvvstore-VERSION-linux-x86_64.tar.gz and its SHA-256 beside it. VERSION is what the
-# program prints. The archive has the program, README.md, CHANGELOG.md, docs/ and service/; the same files give the same archive.
+# program prints.
+#
+# The archive is laid out as the repository is: README.md, CHANGELOG.md, docs/, service/, and the data that the documents speak of. The
+# program stands at its top and, a link to the same file, where a build puts it, so the documents' command lines run in the archive as they
+# stand. The file BUILT says of which commit it is, and what was proved. The same files give the same archive.
 #
 # The crates of the program are proved one after another, lowest first, each by as many jobs as there are processors, fewer where memory
 # lacks: a job takes some 2 GB, the largest crate 8 GB by one job. What was proved already, and hasn't changed, is proved no more. The
 # tests, the wrong bodies and the trials aren't part of a release: `rt ci` and trials/run.py run them.
 #
-# It needs rt, git, tar, gzip and sha256sum.
+# It needs git, tar, gzip and sha256sum, and to build rt.
 set -eu
 
 JOB_KB=2097152     # memory that a job takes
 LARGE=dvvstore     # the crate that takes most of it
 TARGET=linux-x86_64
+PACKED="README.md CHANGELOG.md LICENSE* docs service crates/examples/data"
+BUILT=crates/$LARGE/out/$LARGE
 
 top=$(cd "$(dirname "$0")/.." && pwd)
 program=
@@ -67,7 +73,7 @@ build() {
     done
     echo "$LARGE"
     (cd "$top/crates/$LARGE" && rt run --jobs 1 -- version >"$log" 2>&1) || fail
-    program=$top/crates/$LARGE/out/$LARGE
+    program=$top/$BUILT
     proved="proved: $LARGE and the $count crates that it stands on, each function by its contract, with $(rt version); not run: tests, wrong bodies, trials"
 }
 
@@ -77,25 +83,33 @@ fail() {
 }
 
 pack() {
-    version=$("$program" version | sed -n 's/^dvvstore //p')
+    told=$("$program" version)
+    version=$(echo "$told" | sed -n 's/^dvvstore //p')
     [ -n "$version" ] || { echo "$program: no version" >&2 && exit 1; }
+    commit=$(git -C "$top" rev-parse HEAD)
+    changed=$(git -C "$top" status --porcelain)
+    moment=$(git -C "$top" log -1 --format=%ct)
     name=dvvstore-$version-$TARGET
     root=$work/$name
-    mkdir -p "$root" "$folder"
+    mkdir -p "$root/$(dirname "$BUILT")" "$folder"
+    # The words of PACKED are patterns of git's own: what isn't part of the repository isn't packed.
+    (cd "$top" && set -f && git ls-files -z -- $PACKED) >"$work/files"
+    tar -C "$top" --null -T "$work/files" -cf "$work/files.tar"
+    tar -C "$root" -xf "$work/files.tar"
     install -m 755 "$program" "$root/dvvstore"
-    cp "$top/README.md" "$top/CHANGELOG.md" "$root"
-    cp -R "$top/docs" "$top/service" "$root"
-    find "$root" -name __pycache__ -prune -exec rm -rf {} +
+    ln "$root/dvvstore" "$root/$BUILT"
+    printf '%s\n' "$told" "commit $commit${changed:+, with changes beside it}" "$proved" >"$root/BUILT"
     chmod -R u=rwX,go=rX "$root"
-    moment=$(git -C "$top" log -1 --format=%ct)
-    tar -C "$work" --sort=name --mtime="@$moment" --owner=0 --group=0 --numeric-owner -cf - "$name" | gzip -9n >"$folder/$name.tar.gz"
+    tar -C "$work" --sort=name --mtime="@$moment" --owner=0 --group=0 --numeric-owner -cf "$work/$name.tar" "$name"
+    gzip -9n "$work/$name.tar"
+    install -m 644 "$work/$name.tar.gz" "$folder"
     (cd "$folder" && sha256sum "$name.tar.gz" >"$name.tar.gz.sha256")
 }
 
 work=$(mktemp -d)
 trap 'rm -rf "$work"' EXIT
 log=$work/log
-proved="not proved here: $program"
+proved="not proved here: the program was built elsewhere"
 [ -n "$program" ] || build
 pack
 echo "$proved"

@@ -65,6 +65,7 @@ NAMES = (
     "beside",
     "dpdk",
     "docs",
+    "release",
     "fresh",
     "corpus",
     "library",

@@ -12,6 +12,8 @@ from typing import Any
 
 TOP = Path(__file__).resolve().parent.parent
 ALL = 0  # in the place of a number, where nothing is left out
+# What a copy of the repository, in which its documents' command lines are run, has no need of.
+NOT_COPIED = shutil.ignore_patterns(".git", "out", "*.rt", "*.antt", "*.edit")
 C_SOURCES = Path(__file__).resolve().parent / "c"
 FOR_THE_SYSTEM = "/usr/sbin:/sbin"  # which aren't on the PATH of all users
 COMPILE = ("-O2", "-pthread")
@@ -108,11 +110,13 @@ def line_of_page(page: Path, word: str) -> str:
     return lines[0]
 
 
-def run_line(line: str, room: Path, given: str = "", **named: object) -> subprocess.CompletedProcess[str]:
+def run_line(
+    line: str, room: Path, given: str = "", environment: Mapping[str, str] | None = None, **named: object
+) -> subprocess.CompletedProcess[str]:
     """Runs a command line of a page in a room, with what stands for each name in it, and with this on its standard input."""
     for name, word in named.items():
         line = re.sub(rf"\b{name}\b", str(word), line)
-    return subprocess.run(["sh", "-c", line], cwd=room, input=given, capture_output=True, text=True)
+    return subprocess.run(["sh", "-c", line], cwd=room, input=given, capture_output=True, text=True, env=environment)
 
 
 def words_of(found: object, most: int = 300) -> str:
