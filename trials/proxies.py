@@ -1,10 +1,11 @@
 """Has nginx and stunnel stand before a store, by the files of the folder service, and asks it through them as each of its users.
 
-The files are taken as they are, but for ports, folders and the rate, which is a hundredth; certificates and passwords are made by
+The files are taken as they are, but for ports, folders and the rate; certificates and passwords are made by
 the lines of docs/OPERATIONS.md. Through nginx each user has to be let through or refused as the page says, whatever a target looks
 like: a bucket `a/b`, spelled `a%2Fb`, has its properties set by the admin alone. Nothing of what was refused may have reached the
-store. Values and contexts of the greatest length have to pass, and of many requests at once no more than the burst and the rate.
-Through stunnel the holder of a certificate that is listed is served, and nobody else.
+store. Of targets that are drawn from the parts of routes, escapes, dots and slashes, a writer's PUT and DELETE may write a key or be
+refused, and nothing else. Values and contexts of the greatest length have to pass, and of many requests at once no more than the burst
+and the rate. Through stunnel the holder of a certificate that is listed is served, and nobody else.
 """
 from __future__ import annotations
 
@@ -27,12 +28,22 @@ from pathlib import Path
 
 import kept
 from server import HOST, Server, request, stopped_in_order
-from trial import TOP, Findings, Result, Skipped, Whole, line_of_page, run_line, tool
+from trial import TOP, Findings, Result, Skipped, line_of_page, run_line, tool
 
 NAME = "proxies"
 PROMISES = "Behind nginx users may do what their roles say, and behind stunnel who has a certificate."
 QUICK = True
-FULL = SHORT = Whole()
+
+
+@dataclass(frozen=True)
+class Size:
+    """How many targets are drawn by chance."""
+
+    targets: int
+
+
+FULL = Size(targets=5_000)
+SHORT = Size(targets=500)
 
 FOLDER = TOP / "service"
 PAGE = TOP / "docs" / "OPERATIONS.md"
@@ -60,11 +71,12 @@ http {{
 START_SECONDS, ANSWER_SECONDS, END_SECONDS = 20, 30, 30
 USERS = ("admin", "app", "reader", "ADMIN")
 KEY, OTHER = "/buckets/b/keys/k", "/buckets/b/keys/other"
+TYPED, OLD = "/types/default/buckets/b", "/riak/b/other-route"
 ESCAPED = "/buckets/a%2Fb/props"
 BINDS = b'{"props":{"precommit":"no"}}'
 MOST_BYTES = 65_536
 MOST_ENTRIES = 1_024
-RATE, SLOW_RATE, BURST = "rate=100r/s", "rate=1r/s", 200
+RATE, SLOW_RATE, NO_RATE, BURST = "rate=100r/s", "rate=1r/s", "rate=100000r/s", 200
 ASKED_TOGETHER = 500
 
 # What each user asks, and its status. Where a body is needed one is sent.
@@ -94,8 +106,28 @@ ASKED: tuple[tuple[str, str, str, int], ...] = (
     ("app", "PUT", "/buckets/b/keys/k/../../props", 403),
     ("app", "PUT", "/x/../buckets/b/props", 403),
     ("app", "PUT", "//buckets/b/props", 403),
+    ("app", "PUT", "/buckets//props", 403),
+    ("app", "PUT", "/buckets/b//props", 403),
+    ("app", "PUT", "/buckets/b/%70rops", 403),
+    ("app", "PUT", "/buckets/b/props?/buckets/b/keys/k", 403),
+    ("app", "PUT", "/buckets/b/props#/buckets/b/keys/k", 403),
+    ("app", "PUT", "/buckets/b/keys/k#/../../props", 403),
+    ("app", "PUT", "/buckets/b/keys/%2e%2e/props", 403),
+    ("app", "PUT", f"{TYPED}/props", 403),
+    ("app", "DELETE", f"{TYPED}/props", 403),
+    ("app", "DELETE", "/buckets/b/props", 403),
     ("app", "PUT", "/hooks/no", 403),
+    ("app", "PUT", "/hooks//no", 403),
+    ("app", "PUT", "//hooks/no", 403),
+    ("app", "PUT", "/./hooks/no", 403),
+    ("app", "PUT", "/../hooks/no", 400),
     ("app", "PUT", "/%68ooks/no", 403),
+    ("app", "PUT", "http://localhost/hooks/no", 403),
+    ("app", "PUT", "http://localhost/buckets/b/props", 403),
+    ("app", "PUT", f"{TYPED}/keys/other-route", 204),
+    ("app", "DELETE", OLD, 204),
+    ("reader", "PUT", OLD, 403),
+    ("reader", "OPTIONS", KEY, 204),
     ("app", "DELETE", "/hooks/no", 403),
     ("app", "PUT", "/buckets/b/keys/..%2F..%2Fprops", 204),
     ("app", "PUT", "/buckets/b/keys/a%00b", 400),
@@ -119,6 +151,16 @@ def free_port() -> int:
     with socket.socket() as found:
         found.bind((HOST, 0))
         return found.getsockname()[1]
+
+
+# What targets are drawn from.
+PARTS = (
+    *("/", "/", "/", "/", "/", "//", "/buckets", "/keys", "/props", "/hooks", "/riak", "/types/default", "/types", "/b", "/no"),
+    *("buckets", "keys", "props", "hooks", "b", "no", ".", "..", "/..", "/../..", "%2F", "%2f", "%2e%2e", "%70rops", "%68ooks"),
+    *("?", "?w=1", "#", ";", "%3F", "%23", "%25", "%5C", "\\", "&", "=", ":", "@", "http://b", "*"),
+)
+MOST_PARTS = 8
+DRAWN_AFTER = ("", "/buckets/b", "/buckets/b/keys/k", "/buckets/keys/keys", "/hooks/no", "/buckets/b/props", "/types/default/buckets/b", "/riak/b")
 
 
 @dataclass(frozen=True)
@@ -193,20 +235,24 @@ class Asker:
 
     def ask(self, user: str, method: str, path: str, body: object = None, **heads: str) -> tuple[int, bytes, Mapping[str, str]]:
         given = {name.replace("_", "-"): value for name, value in heads.items()}
-        self.connection.request(method, path, body, {**heads_of(user), **given})
+        self.connection.request(method, path, body, {"Host": NAME_OF_HOST, **heads_of(user), **given})
         answer = self.connection.getresponse()
         return answer.status, answer.read(), answer.headers
 
 
-@contextlib.contextmanager
-def nginx(found: Findings, server: Server, room: Path) -> Iterator[Proxy]:
-    """nginx before a server, by its file."""
-    program, port = tool("nginx"), free_port()
+def make_users(found: Findings, room: Path) -> None:
+    """Makes the certificate and the passwords by the lines of the page."""
     run_page(found, "nginx/dvvstore.key", room)
     for user in USERS:
         run_page(found, "openssl passwd", room, f"{user[::-1]}\n", app=user)
+
+
+@contextlib.contextmanager
+def nginx(found: Findings, server: Server, room: Path, rate: str) -> Iterator[Proxy]:
+    """nginx before a server, by its file but for the rate."""
+    program, port = tool("nginx"), free_port()
     text = (FOLDER / "nginx.conf").read_text(encoding="utf-8")
-    places = {STORE: f"{HOST}:{server.port}", LISTENS: f"listen {HOST}:{port}", RATE: SLOW_RATE, "/etc/nginx": str(room)}
+    places = {STORE: f"{HOST}:{server.port}", LISTENS: f"listen {HOST}:{port}", RATE: rate, "/etc/nginx": str(room)}
     text = replaced(found, text, places)
     (room / "dvvstore.conf").write_text(text, encoding="utf-8")
     main = room / "main.conf"
@@ -224,6 +270,28 @@ def try_users(found: Findings, server: Server, asker: Asker) -> None:
         found.hold(b'"precommit":null' in client.must(200, "GET", "/buckets/b/props").body, "nothing was bound by who isn't the admin")
         found.hold(b'"precommit":"no"' in client.must(200, "GET", ESCAPED).body, "the admin has bound a hook")
         found.hold(client.ask("GET", OTHER).status == 404, "nobody has written but who may")
+
+
+def drawn_target(chance: random.Random) -> str:
+    return chance.choice(DRAWN_AFTER) + "".join(chance.choices(PARTS, k=chance.randint(0, MOST_PARTS)))
+
+
+def try_targets(found: Findings, proxy: Proxy, targets: int, chance: random.Random) -> int:
+    """Of targets that are drawn a writer changes keys alone: what is 204 has the tag of a write. Gives how many were let through.
+
+    One key has as many siblings as there may be in the end, and then a write is 409.
+    """
+    let = 0
+    with contextlib.closing(proxy.connection()) as connection:
+        asker = Asker(connection)
+        for _ in range(targets):
+            method, target = chance.choice(("PUT", "DELETE")), drawn_target(chance) or "/"
+            body = chance.choice((BINDS, kept.REJECTS)) if method == "PUT" else None
+            status, _, heads = asker.ask("app", method, target, body)
+            let += status == 204
+            found.hold(status != 204 or "X-Riak-Tag" in heads, f"a writer's {method} {target} does more than write a key")
+            found.hold(status in (204, 400, 403, 404, 405, 409), f"a writer's {method} {target}: {status}")
+    return let
 
 
 def longest_context() -> str:
@@ -278,15 +346,20 @@ def try_rate(found: Findings, proxy: Proxy) -> int:
     return let
 
 
-def try_nginx(found: Findings, program: Path, room: Path, chance: random.Random) -> str:
-    with stopped_in_order(Server.serve(program)) as server, nginx(found, server, room) as proxy:
-        with contextlib.closing(proxy.connection()) as connection:
-            asker = Asker(connection)
-            try_users(found, server, asker)
-            try_lengths(found, server, asker, chance)
-        try_plain(found, proxy)
-        let = try_rate(found, proxy)
-    return f"nginx: {len(ASKED)} requests of users, {let} of {ASKED_TOGETHER} at once"
+def try_nginx(found: Findings, program: Path, room: Path, targets: int, chance: random.Random) -> str:
+    tool("nginx")
+    make_users(found, room)
+    with stopped_in_order(Server.serve(program)) as server:
+        with nginx(found, server, room, NO_RATE) as proxy:
+            with contextlib.closing(proxy.connection()) as connection:
+                asker = Asker(connection)
+                try_users(found, server, asker)
+                try_lengths(found, server, asker, chance)
+            through = try_targets(found, proxy, targets, chance)
+            try_plain(found, proxy)
+        with nginx(found, server, room, SLOW_RATE) as proxy:
+            let = try_rate(found, proxy)
+    return f"nginx: {len(ASKED)} requests of users, {through} of {targets} targets, {let} of {ASKED_TOGETHER} at once"
 
 
 # stunnel
@@ -338,10 +411,10 @@ def try_stunnel(found: Findings, program: Path, room: Path) -> str:
     return "stunnel: 1 of 3 clients"
 
 
-def run(program: Path, seed: int, size: Whole) -> Result:
+def run(program: Path, seed: int, size: Size) -> Result:
     tool("openssl")
     found, chance, figures, lacking = Findings(), random.Random(seed), [], []
-    tries = (lambda room: try_nginx(found, program, room, chance), lambda room: try_stunnel(found, program, room))
+    tries = (lambda room: try_nginx(found, program, room, size.targets, chance), lambda room: try_stunnel(found, program, room))
     for one in tries:
         with tempfile.TemporaryDirectory(prefix="trial-") as room:
             try:
