@@ -19,6 +19,7 @@ from __future__ import annotations
 import contextlib
 import os
 import random
+import re
 import shutil
 import signal
 import subprocess
@@ -55,7 +56,7 @@ PAGE = TOP / "docs" / "OPERATIONS.md"
 MAKES_A_COPY, PUTS_IT_BACK, RAISES_THE_NUMBER = "-cf copy.tar", "-xf copy.tar", "number $N"
 TAKEN = (0, 1)  # where a file was replaced while it was read it is 1
 INSTALLED = "/usr/local/bin/dvvstore-service"
-FILES = {"incarnation", "lock", "vnode-0.records", "vnode-1.records", "vnode-2.records", "hooks.requests", kept.SETTINGS}
+FILES = re.compile(rf"incarnation|lock|vnode-\d+\.records|hooks\.requests|{kept.SETTINGS}")
 
 WRITERS = 2
 WORKERS = 2
@@ -188,8 +189,8 @@ class Life:
         is_kept = end is not None and [line.split()[0] for line in end.printed] == ["kept", "audit"]
         is_kept = is_kept and all(line.startswith("snapshot ") for line in end.told)
         self.found.hold(is_kept and end.status == status and end.printed[-1] == "audit ok", f"{what}: {end}")
-        left = {path.name for path in self.folder.iterdir()}
-        self.found.hold(left <= FILES, f"{what}: the folder holds {sorted(left - FILES)}")
+        left = sorted(path.name for path in self.folder.iterdir() if not FILES.fullmatch(path.name))
+        self.found.hold(not left, f"{what}: the folder holds {left}")
 
     def check_start(self, what: str, folder: Path | None = None, wanted: Sequence[str] | None = None) -> None:
         """Whether the next start has each key that was acknowledged, and ends in order."""
