@@ -74,7 +74,8 @@ build() {
     echo "$LARGE"
     (cd "$top/crates/$LARGE" && rt run --jobs 1 -- version >"$log" 2>&1) || fail
     program=$top/$BUILT
-    proved="proved: $LARGE and the $count crates that it stands on, each function by its contract, with $(rt version); not run: tests, wrong bodies, trials"
+    proved="proved: $LARGE and the $count crates that it stands on, each function by its contract, with $(rt version)"
+    proved="$proved; not run: tests, wrong bodies, trials"
 }
 
 fail() {

@@ -12,7 +12,7 @@ from collections.abc import Iterator
 from dataclasses import dataclass
 from pathlib import Path
 
-from server import HOST
+from server import HOST, free_port
 from trial import compiled, tool
 
 # Folders there lie in memory.
@@ -49,11 +49,6 @@ class Asker:
         if asked.returncode:
             raise ValueError(f"{who} {method}: {asked.stderr}")
         return Rate(*map(float, asked.stdout.split()))
-
-
-def free_port() -> int:
-    with socket.create_server((HOST, 0)) as taken:
-        return taken.getsockname()[1]
 
 
 @contextlib.contextmanager

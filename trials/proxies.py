@@ -27,7 +27,7 @@ from dataclasses import dataclass
 from pathlib import Path
 
 import kept
-from server import HOST, Server, request, stopped_in_order
+from server import HOST, Server, free_port, request, stopped_in_order
 from trial import TOP, Findings, Result, Skipped, line_of_page, run_line, tool
 
 NAME = "proxies"
@@ -147,12 +147,6 @@ def body_of(method: str, path: str) -> bytes | None:
     return BINDS if "/props" in path else kept.REJECTS if "ooks/" in path else b"v"
 
 
-def free_port() -> int:
-    with socket.socket() as found:
-        found.bind((HOST, 0))
-        return found.getsockname()[1]
-
-
 # What targets are drawn from.
 PARTS = (
     *("/", "/", "/", "/", "/", "//", "/buckets", "/keys", "/props", "/hooks", "/riak", "/types/default", "/types", "/b", "/no"),
@@ -160,7 +154,10 @@ PARTS = (
     *("?", "?w=1", "#", ";", "%3F", "%23", "%25", "%5C", "\\", "&", "=", ":", "@", "http://b", "*"),
 )
 MOST_PARTS = 8
-DRAWN_AFTER = ("", "/buckets/b", "/buckets/b/keys/k", "/buckets/keys/keys", "/hooks/no", "/buckets/b/props", "/types/default/buckets/b", "/riak/b")
+DRAWN_AFTER = (
+    *("", "/buckets/b", "/buckets/b/keys/k", "/buckets/keys/keys", "/hooks/no", "/buckets/b/props"),
+    *("/types/default/buckets/b", "/riak/b"),
+)
 
 
 @dataclass(frozen=True)

@@ -61,6 +61,10 @@ def archive_in(folder: Path) -> Path | None:
     return archives[0] if len(archives) == 1 else None
 
 
+def unpack(archive: Path, folder: Path) -> None:
+    subprocess.run([tool("tar"), "-C", folder, "-xzf", archive], check=True)
+
+
 def told_by(program: Path) -> list[str]:
     return subprocess.run([program, "version"], capture_output=True, text=True, timeout=PACK_SECONDS).stdout.splitlines()
 

@@ -41,6 +41,8 @@ NAMES = (
     "stop",
     "slow_stop",
     "service",
+    "systemd",
+    "container",
     "proxies",
     "kills",
     "damages",

@@ -115,6 +115,13 @@ def vnode_of(tag: str) -> int:
     return int(tag.partition("-")[0])
 
 
+def free_port() -> int:
+    """A port that nobody listens at."""
+    with socket.socket() as found:
+        found.bind((HOST, 0))
+        return found.getsockname()[1]
+
+
 # A client
 
 
