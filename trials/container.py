@@ -3,7 +3,8 @@
 An archive of a release is unpacked, and the page's lines are run there by `docker`, or by `podman` where no engine of docker's answers;
 only names, the port and the number of descriptors are the trial's. A write has to be answered, the signal of the page to bring a
 snapshot, a stop to end with `kept N`, `audit ok` and status 0, and the next start to have what was written. Another start has the root
-folder that can't be written, and no capability, as compose.yaml has it.
+folder that can't be written, and no capability, as compose.yaml has it. That file itself is read by `docker compose`, where there is
+one, and not run.
 
 The base image has to be at hand, or its registry. The variable ENGINE names another command in the place of `docker`, and RUN_FLAGS
 has further words for its `run`, where a machine permits less than that asks for by itself.
@@ -33,6 +34,7 @@ QUICK = False
 FULL = SHORT = Whole()
 
 PAGE = TOP / "docs" / "OPERATIONS.md"
+COMPOSE = TOP / "service" / "compose.yaml"
 BASE = re.compile(r"^FROM (\S+)", re.M)
 IMAGE, VOLUME, PUBLISHED, FILES = "dvvstore", "dvvstore:/var/lib/dvvstore", "127.0.0.1:8098:8098", "nofile=65536"
 GUARDED = ("--read-only", "--cap-drop", "ALL", "--security-opt", "no-new-privileges")
@@ -139,6 +141,17 @@ def try_image(found: Findings, engine: Engine, folder: Path) -> None:
     try_stop(found, engine, folder, "a stop of one that may do little")
 
 
+def try_compose(found: Findings) -> str:
+    """Whether the file for compose is one, where there is a command that says so."""
+    for words in (["docker", "compose"], ["docker-compose"]):
+        if shutil.which(words[0]) and subprocess.run([*words, "version"], capture_output=True).returncode == 0:
+            ran = subprocess.run([*words, "-f", COMPOSE, "config", "--quiet"], stdin=subprocess.DEVNULL, capture_output=True, text=True)
+            found.hold(ran.returncode == 0, f"{COMPOSE.name}: {ran}")
+            return f"{COMPOSE.name} read"
+    found.say(f"{COMPOSE.name} is left out: no compose")
+    return "no compose"
+
+
 def run(program: Path, seed: int, size: Whole) -> Result:
     found, engine = Findings(), engine_at_hand(f"trial-{os.getpid()}")
     want_base(engine)
@@ -150,4 +163,4 @@ def run(program: Path, seed: int, size: Whole) -> Result:
             try_image(found, engine, room / archive.name.removesuffix(".tar.gz"))
         finally:
             engine.remove()
-    return found.result(f"built and run by {engine.words[-1].rpartition('/')[2]}")
+    return found.result(f"built and run by {engine.words[-1].rpartition('/')[2]}; {try_compose(found)}")
