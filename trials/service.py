@@ -56,7 +56,7 @@ PAGE = TOP / "docs" / "OPERATIONS.md"
 MAKES_A_COPY, PUTS_IT_BACK, RAISES_THE_NUMBER = "-cf copy.tar", "-xf copy.tar", "number $N"
 TAKEN = (0, 1)  # where a file was replaced while it was read it is 1
 INSTALLED = "/usr/local/bin/dvvstore-service"
-FILES = re.compile(rf"incarnation|lock|vnode-\d+\.records|hooks\.requests|{kept.SETTINGS}")
+FILES = re.compile(rf"incarnation|lock|log-\d+|vnode-\d+\.records|hooks\.requests|{kept.SETTINGS}")
 
 WRITERS = 2
 WORKERS = 2

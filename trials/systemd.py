@@ -5,8 +5,8 @@ own. An archive is unpacked there, and the lines of the page's sections are run 
 its unit begun. A write has to be answered, `systemctl reload` to bring a snapshot, `systemctl stop` to end with `kept N`, `audit ok` and
 status 0, and a start behind it to have what was written. A program that is killed has to be started again, and what came before the
 snapshot to be there. The folder has to be its user's alone. Where the machine has nginx or stunnel they are put before it by the lines
-of the page, and asked as the page asks them. No call of the program may be refused by what the unit forbids: systemd
-ends a program that makes one.
+of the page, and asked as the page asks them. What the unit forbids has to be forbidden, as the kernel says, and no call of the program's
+may be of it: the system ends a program that makes one.
 
 What the unit leaves open is told by `systemd-analyze security`, from 0, nothing, to 10.
 """
@@ -35,8 +35,12 @@ STORE = "http://127.0.0.1:8098"
 PROGRAMS = {"nginx": "nginx", "stunnel": "stunnel4"}
 PASSWORD = "none"
 BOOT_SECONDS = 300
+# There is nobody to be asked at a first boot, and no network to be waited for.
+BOOTED_WITH = ("systemd.firstboot=off", "systemd.mask=systemd-networkd-wait-online.service", "systemd.unit=trial.service")
 WAIT_SECONDS = 60
 MOST_EXPOSURE = 2.0
+# What the system says of a process that has no capability, can't get one, and whose calls are filtered.
+GUARDED = "CapBnd:\t0+\nNoNewPrivs:\t1\nSeccomp:\t2\n"
 
 # What systemd is to do: run the script, and end.
 RUNS_THE_SCRIPT = """[Unit]
@@ -125,6 +129,7 @@ def steps() -> list[Step]:
         Step("unit", page("service/dvvstore.service")),
         Step("start", page("systemctl daemon-reload")),
         Step("put", put("k", "milk"), "204$"),
+        Step("guarded", "grep -E '^(CapBnd|NoNewPrivs|Seccomp):' /proc/`systemctl show -p MainPID --value dvvstore`/status", GUARDED),
         Step("reload", "systemctl reload dvvstore"),
         Step("snapshot", told("^snapshot 1 ")),
         Step("another", put("l", "bread"), "204$"),
@@ -157,7 +162,7 @@ def boot(room: Path, top: str) -> str:
     for name in filter(has_proxy, PROXIES):
         shutil.copytree(Path("/etc", name), room / name, symlinks=True)
         words += [f"--bind={room / name}:/etc/{name}"]
-    words += ["--bind-ro=/etc/ssl", "--tmpfs=/usr/local/bin", "--boot", "systemd.firstboot=off", "systemd.unit=trial.service"]
+    words += ["--bind-ro=/etc/ssl", "--tmpfs=/usr/local/bin", "--boot", *BOOTED_WITH]
     ran = subprocess.run(words, stdin=subprocess.DEVNULL, capture_output=True, text=True, timeout=BOOT_SECONDS, errors="replace")
     return ran.stdout + ran.stderr
 
