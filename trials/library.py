@@ -350,8 +350,10 @@ def filled(kind: int, values: Values, chance: random.Random) -> Values:
 
 ACCESSORS = C_SOURCES / "accessors.c"
 BYTES = 4096  # each of its windows
+ARRAY = 16  # what it loads into
 LARGE = [1 << 16, 1 << 31, (1 << 32) - 1, 1 << 32, 1 << 63, (1 << 64) - BYTES, (1 << 64) - 1]
 NONE = (1 << 64) - 1
+NARROW = 1 << 32
 
 
 def edge(chance: random.Random) -> int:
@@ -379,10 +381,18 @@ def of_accessors(given: bytes) -> bytes:
     def same(size: int) -> bool:
         return lies_in(offset, size) and given[offset : offset + size] == given[32 : 32 + size]
 
+    def of_row(at: int, size: int) -> bytes | None:
+        """The value of a row, whose offset and length have 32 bits."""
+        at, size = at % NARROW, size % NARROW
+        return given[at : at + size] if lies_in(at, size) else None
+
     is_copied = lies_in(place, length) and lies_in(offset, length)
     if is_copied:
         output[place : place + length] = given[offset : offset + length]
     clamped = min(offset, BYTES - 100)
+    is_loaded = lies_in(offset, length) and length <= ARRAY
+    array = given[offset : offset + length].ljust(ARRAY, b"\0") if is_loaded else bytes(ARRAY)
+    one, other, half = (of_row(*row) for row in ((offset, length), (place, length), (place, length % NARROW // 2)))
     told = [
         is_copied,
         min(offset, 1000),
@@ -395,7 +405,11 @@ def of_accessors(given: bytes) -> bytes:
         1 + given.find(given[32:34], offset, offset + length) if lies_in(offset, length) else 0,
         decimal(3),
         same(5),
-        min(offset % (1 << 32), BYTES - 100),
+        min(offset % NARROW, BYTES - 100),
+        is_loaded,
+        *struct.unpack("<2Q", array),
+        None not in (one, other) and one == other,
+        1 if None in (one, half) else 1 + (one > half) - (one < half),
     ]
     if told[11]:
         told[11] -= offset
