@@ -75,14 +75,6 @@ def like_rows(chance: random.Random) -> bytes:
     return b"".join(row)[: chance.randrange(73)]
 
 
-def hostile(kind: int, chance: random.Random) -> bytes:
-    """Bytes that no store makes: a head of any rows, or none, and behind it bytes that read as rows."""
-    count = chance.choice([0, 1, 2, 3, 64, 65, 2730, (1 << 32) - 1])
-    head = struct.pack("<IIII", kind, count, chance.getrandbits(32), chance.getrandbits(32))
-    rest = b"".join(like_rows(chance) for _ in range(chance.choice([0, 2, 70])))
-    return (head + rest)[: chance.choice([0, 5, 16, WINDOW, WINDOW, WINDOW])]
-
-
 # Models of resolvers
 
 
@@ -346,12 +338,39 @@ def filled(kind: int, values: Values, chance: random.Random) -> Values:
     return [(it or b"") + bytes(left - 1) + b"\n" if index == place and left else it for index, it in enumerate(values)]
 
 
+def strange_bytes(kind: int, chance: random.Random) -> bytes:
+    """A head of any rows, or none, and behind it bytes that read as rows."""
+    count = chance.choice([0, 1, 2, 3, 64, 65, 2730, (1 << 32) - 1])
+    head = struct.pack("<IIII", kind, count, chance.getrandbits(32), chance.getrandbits(32))
+    rest = b"".join(like_rows(chance) for _ in range(chance.choice([0, 2, 70])))
+    return (head + rest)[: chance.choice([0, 5, 16, WINDOW, WINDOW, WINDOW])]
+
+
+def hostile(kind: int, model: Model, chance: random.Random) -> bytes:
+    """Bytes that no store makes: all the same, a layout that ends too soon, rows whose values lie anywhere, or strange ones."""
+    match chance.randrange(4):
+        case 0:
+            return chance.choice([b"\x00", b"\x01", b"\xff"]) * chance.choice([1, HEAD, HEAD + ROW, WINDOW - 1, WINDOW, WINDOW])
+        case 1:
+            whole = layout(kind, values_for(kind, model, chance), chance)
+            return whole[: chance.randrange(len(whole))]
+        case 2:
+            whole = bytearray(layout(kind, values_for(kind, model, chance), chance))
+            for _ in range(chance.choice([1, 3, 64])):
+                place = HEAD + ROW * chance.randrange(struct.unpack_from("<I", whole, 4)[0]) + chance.choice([16, 20])
+                struct.pack_into("<I", whole, place, chance.choice([0, 1, WINDOW - 8, WINDOW - 1, WINDOW, (1 << 31) - 1, (1 << 32) - 1]))
+            return bytes(whole)
+    return strange_bytes(kind, chance)
+
+
 # Accessors
 
 ACCESSORS = C_SOURCES / "accessors.c"
 BYTES = 4096  # each of its windows
+ARRAY = 16  # what it loads into
 LARGE = [1 << 16, 1 << 31, (1 << 32) - 1, 1 << 32, 1 << 63, (1 << 64) - BYTES, (1 << 64) - 1]
 NONE = (1 << 64) - 1
+NARROW = 1 << 32
 
 
 def edge(chance: random.Random) -> int:
@@ -379,10 +398,18 @@ def of_accessors(given: bytes) -> bytes:
     def same(size: int) -> bool:
         return lies_in(offset, size) and given[offset : offset + size] == given[32 : 32 + size]
 
+    def of_row(at: int, size: int) -> bytes | None:
+        """The value of a row, whose offset and length have 32 bits."""
+        at, size = at % NARROW, size % NARROW
+        return given[at : at + size] if lies_in(at, size) else None
+
     is_copied = lies_in(place, length) and lies_in(offset, length)
     if is_copied:
         output[place : place + length] = given[offset : offset + length]
     clamped = min(offset, BYTES - 100)
+    is_loaded = lies_in(offset, length) and length <= ARRAY
+    array = given[offset : offset + length].ljust(ARRAY, b"\0") if is_loaded else bytes(ARRAY)
+    one, other, half = (of_row(*row) for row in ((offset, length), (place, length), (place, length % NARROW // 2)))
     told = [
         is_copied,
         min(offset, 1000),
@@ -395,7 +422,11 @@ def of_accessors(given: bytes) -> bytes:
         1 + given.find(given[32:34], offset, offset + length) if lies_in(offset, length) else 0,
         decimal(3),
         same(5),
-        min(offset % (1 << 32), BYTES - 100),
+        min(offset % NARROW, BYTES - 100),
+        is_loaded,
+        *struct.unpack("<2Q", array),
+        None not in (one, other) and one == other,
+        1 if None in (one, half) else 1 + (one > half) - (one < half),
     ]
     if told[11]:
         told[11] -= offset
@@ -481,7 +512,7 @@ def tries_of(name: str, size: Size, chance: random.Random) -> Iterable[Try]:
             values = filled(kind, values, chance)
         yield Try(name, layout(kind, values, chance), model.says(values))
     for _ in range(size.hostile):
-        yield Try(name, hostile(kind, chance), None)
+        yield Try(name, hostile(kind, model, chance), None)
 
 
 def fault_of(program: Path, one: Try) -> str:

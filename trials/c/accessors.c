@@ -23,5 +23,13 @@ u64 accessors(const u8 *input, u64 used, u8 *output, u64 room)
     told[13] = same_at(input, offset, input + 32, 5);
     const struct row row = {.offset = offset};
     told[14] = value_at(input, &row, 100) - input;
+    u64 array[2] = {0};
+    told[15] = load_at(array, sizeof array, input, offset, length);
+    told[16] = array[0];
+    told[17] = array[1];
+    const struct row one = {.offset = offset, .length = length}, other = {.offset = place, .length = length};
+    const struct row half = {.offset = place, .length = (u32)length / 2};
+    told[18] = same_values(input, &one, &other);
+    told[19] = order_values(input, &one, &half);
     return 0;
 }

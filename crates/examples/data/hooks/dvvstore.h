@@ -156,4 +156,33 @@ ACCESSOR u64 copy_at(u8 *output, u64 place, const u8 *input, u64 offset, u64 len
     return 1;
 }
 
+/* Copies so many bytes (length) from an offset of the input into a local array of `most` bytes, a constant, in which single bytes are read at
+ * constant places. 1 where it is done; 0, and nothing is copied, where they are more than that, or don't lie in the input. */
+ACCESSOR u64 load_at(void *array, u64 most, const u8 *input, u64 offset, u64 length)
+{
+    if (!LIES_IN(offset, length, INPUT_WINDOW)) return 0;
+    if (__builtin_expect(length > most, 0)) return 0;
+    copy(array, input + offset, length);
+    return 1;
+}
+
+/* 1 where the values of two rows are the same bytes, else 0; 0 where one of them doesn't lie in the input. */
+ACCESSOR u64 same_values(const u8 *input, const struct row *row, const struct row *other)
+{
+    u64 offset = row->offset, behind = other->offset, length = row->length;
+    if (length != other->length) return 0;
+    if (!LIES_IN(offset, length, INPUT_WINDOW)) return 0;
+    if (!LIES_IN(behind, length, INPUT_WINDOW)) return 0;
+    return same(input + offset, input + behind, length);
+}
+
+/* As order has it, of the values of two rows; 1 where one of them doesn't lie in the input. */
+ACCESSOR u64 order_values(const u8 *input, const struct row *row, const struct row *other)
+{
+    u64 offset = row->offset, length = row->length, behind = other->offset, size = other->length;
+    if (!LIES_IN(offset, length, INPUT_WINDOW)) return 1;
+    if (!LIES_IN(behind, size, INPUT_WINDOW)) return 1;
+    return order(input + offset, length, input + behind, size);
+}
+
 #endif

@@ -6,9 +6,9 @@
     make_hooks.py --line my.c 3                the line of my.c that slot 3 of my.img comes from
 
 Where dvvstore is built (or named: --dvvstore PATH) it verifies what was made, and of a refusal the line of C, the instruction, the rule in
-words, what to write instead and what was known there are told at once (the command `explain`). What is refused is compiled once more without
-jumps and arithmetic on 32 bits, whose spills are of 8 bytes, which the verifier follows, and then with them, but with a jump for each test,
-and stays so where that is accepted.
+words, what to write instead and what was known there are told at once (the command `explain`). What is refused, has too many slots or a loop is
+compiled once more without jumps and arithmetic on 32 bits, whose spills are of 8 bytes, which the verifier follows, and then with them, but
+with a jump for each test, and stays so where that is accepted.
 """
 import argparse
 import re
@@ -17,6 +17,7 @@ import struct
 import subprocess
 import sys
 import tempfile
+from collections import Counter
 from dataclasses import dataclass
 from pathlib import Path
 
@@ -25,6 +26,8 @@ KINDS = {"plain": 0, "pre-commit": 1, "resolver": 2}
 VERSION = 2  # verified by the second table of kinds, which knows what the stack holds
 SLOT = 8
 MOST_SLOTS = 4096
+LONGEST_JUMP = 32767
+LINES_TOLD = 3  # of a hook that has too many slots
 MOST_WINDOW = 65536
 HEAD_SIZE = 16
 
@@ -57,13 +60,23 @@ JUMP_CLASSES = (5, 6)
 OWN_FUNCTION = 1  # a CALL with this source calls a function of the code itself
 
 WORDS_ON_CONSTANTS = (
-    "constants lie in a section of their own, whose address only a linker knows: write a short text or table as a local array, "
-    "u8 text[3] = {'a', 'b', 'c'}, a longer table as a switch or as arithmetic"
+    "constants lie in a section of their own, whose address only a linker knows: write a text as a local array, const u8 text[] = \"abc\", "
+    "set the elements of an array of larger numbers one by one, and write a longer table as a switch or as arithmetic"
+)
+WORDS_ON_LOOPS = "write #pragma unroll before it and a constant count, and leave its rounds by continue, not by break"
+WORDS_ON_SLOTS = (
+    "test eight bytes at once, or copy a value to the output or a local array and read bytes at constant places there; or serve shorter "
+    "values or fewer siblings"
 )
 WORDS_ON_FUNCTIONS = "a hook is one function: write 'static inline __attribute__((always_inline))' before each other one"
 
+
 class Refused(Exception):
     """Why a source makes no image, in words for its author."""
+
+
+class Unfit(Refused):
+    """Why it makes none where it is compiled in one way: in another it may."""
 
 
 class GoesBack(Exception):
@@ -183,10 +196,11 @@ def ordered(code):
         goes_on = block.following if block.is_conditional or block.jump is None else block.target
         if goes_on not in (None, behind):
             put(bytes([JUMP]) + bytes(SLOT - 1), end, goes_on)
-    if len(slots) > MOST_SLOTS:
-        raise Refused(f"{len(slots)} slots are over {MOST_SLOTS}: unroll less, or serve fewer siblings and keep the others")
     for place, to in jumps:
-        slots[place] = slots[place][:2] + struct.pack("<h", places[to] - place - 1) + slots[place][4:]
+        distance = places[to] - place - 1
+        if distance > LONGEST_JUMP:
+            raise Unfit(f"a jump over {distance} slots is over {LONGEST_JUMP}: {WORDS_ON_SLOTS}")
+        slots[place] = slots[place][:2] + struct.pack("<h", distance) + slots[place][4:]
     return b"".join(slots), origins
 
 
@@ -240,8 +254,13 @@ def compile_hook(source, way, in_len, out_len):
     try:
         code, origins = ordered(code)
     except GoesBack as loop:
-        raise Refused(f"{lines[loop.jump]}: a loop that is not unrolled goes back to {lines[loop.to]}") from None
-    return code, [lines[origin] for origin in origins]
+        words = f"a loop that is not unrolled goes back to {lines[loop.to]}: {WORDS_ON_LOOPS}"
+        raise Unfit(f"{lines[loop.jump]}: {words}") from None
+    lines = [lines[origin] for origin in origins]
+    if len(lines) > MOST_SLOTS:
+        longest = ", ".join(f"{count} of them {line}" for line, count in Counter(lines).most_common(LINES_TOLD))
+        raise Unfit(f"{len(lines)} slots are over {MOST_SLOTS}, {longest}: {WORDS_ON_SLOTS}")
+    return code, lines
 
 
 # Images
@@ -276,16 +295,29 @@ def verdict(dvvstore, image, lines):
     return "\n    ".join([f"{told}, {lines[int(refused[1])]}", *looked_at])
 
 
+def built_in_ways(source, in_len, out_len):
+    """Of each way in which a source makes an image: the way, the code and the line of each slot. There is one, or it says why not."""
+    unfit = []
+    for way in WAYS:
+        try:
+            code, lines = compile_hook(source, way, in_len, out_len)
+        except Unfit as why:
+            unfit.append(why)
+        else:
+            yield way, code, lines
+    if len(unfit) == len(WAYS):
+        raise unfit[0]
+
+
 def make(source, kind, in_len, out_len, image, dvvstore=None):
     """Writes the image of a source, and gives what the verifier (of dvvstore, or of the built one) says of it: that of the first way in
-    which it is accepted, or else of the first."""
+    which it is accepted, or else of the first in which there is an image."""
     dvvstore, refused = dvvstore or program(), []
-    for way in WAYS:
-        code, lines = compile_hook(source, way, in_len, out_len)
+    for way, code, lines in built_in_ways(source, in_len, out_len):
         image.write_bytes(head(kind, in_len, out_len) + code)
         said = verdict(dvvstore, image, lines)
         if not said.startswith("refused"):
-            return f"{said} ({' '.join(way)})" if refused else said
+            return said if way == WAYS[0] else f"{said} ({' '.join(way)})"
         refused.append((image.read_bytes(), said))
     image.write_bytes(refused[0][0])
     return refused[0][1]
@@ -296,7 +328,7 @@ def lines_in(source):
     image = source.with_suffix(".img")
     made = image.read_bytes() if image.is_file() else head("plain", MOST_WINDOW, MOST_WINDOW)
     _, in_len, out_len = struct.unpack_from("<8sII", made)
-    built = [compile_hook(source, way, in_len, out_len) for way in WAYS]
+    built = [(code, lines) for _, code, lines in built_in_ways(source, in_len, out_len)]
     return next((lines for code, lines in built if code == made[HEAD_SIZE:]), built[0][1])
 
 
