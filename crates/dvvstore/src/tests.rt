@@ -33,6 +33,39 @@ const CLIENTS: usize = 3;
 /// The first identifier.
 const FIRST: u32 = 1_792 * VNODES_PER_NUMBER;
 
+/// A hook that rejects is installed.
+const INSTALL: &[u8] =
+    b"PUT /hooks/no HTTP/1.1\r\nHost: h\r\nContent-Length: 32\r\n\r\nRBPF\x01\x01\x00\x00\x80\x00\x00\x00\x00\x00\x00\x00\xb7\x00\x00\x00\x01\x01\x00\x00\x95\x00\x00\x00\x00\x00\x00\x00";
+
+/// It is bound to a bucket.
+const BIND: &[u8] =
+    b"PUT /buckets/b/props HTTP/1.1\r\nHost: h\r\nContent-Length: 28\r\n\r\n{\"props\":{\"precommit\":\"no\"}}";
+
+/// A key of that bucket is written.
+const WRITE_B: &[u8] = b"PUT /buckets/b/keys/k HTTP/1.1\r\nHost: h\r\nContent-Length: 1\r\n\r\nb";
+
+/// The hook rejects that.
+const REJECTED: &[u8] =
+    b"HTTP/1.1 403 Forbidden\r\nContent-Type: text/plain\r\nContent-Length: 5\r\nX-Content-Type-Options: nosniff\r\nServer: dvvstore\r\n\r\nX3 1\n";
+
+/// What was asked is done.
+const DONE: &[u8] =
+    b"HTTP/1.1 204 No Content\r\nX-Content-Type-Options: nosniff\r\nServer: dvvstore\r\n\r\n";
+
+/// A key of another bucket is written.
+const WRITE_C: &[u8] =
+    b"PUT /buckets/c/keys/k HTTP/1.1\r\nHost: h\r\nContent-Type: text/plain\r\nContent-Length: 1\r\n\r\nc";
+
+/// It is read.
+const READ_C: &[u8] = b"GET /buckets/c/keys/k HTTP/1.1\r\nHost: h\r\n\r\n";
+
+/// A key is read.
+const READ_B: &[u8] = b"GET /buckets/b/keys/k HTTP/1.1\r\nHost: h\r\n\r\n";
+
+/// The first write of a key, at the first vnode.
+const WRITTEN: &[u8] =
+    b"HTTP/1.1 204 No Content\r\nX-Riak-Tag: 458752-1\r\nX-Content-Type-Options: nosniff\r\nServer: dvvstore\r\n\r\n";
+
 /// Which client asks what, and what it is told.
 type Line = (usize, &'static [u8], &'static [u8]);
 
@@ -40,44 +73,28 @@ type Line = (usize, &'static [u8], &'static [u8]);
 const TALK: [Line; 9] = [
     (
         0,
-        b"GET /buckets/b/keys/k HTTP/1.1\r\nHost: h\r\n\r\n",
+        READ_B,
         b"HTTP/1.1 404 Not Found\r\nContent-Type: text/plain\r\nContent-Length: 10\r\nX-Content-Type-Options: nosniff\r\nServer: dvvstore\r\n\r\nnot found\n",
     ),
     (
         0,
         b"PUT /buckets/b/keys/k HTTP/1.1\r\nHost: h\r\nContent-Type: text/plain\r\nContent-Length: 1\r\n\r\na",
-        b"HTTP/1.1 204 No Content\r\nX-Riak-Tag: 458752-1\r\nX-Content-Type-Options: nosniff\r\nServer: dvvstore\r\n\r\n",
+        WRITTEN,
     ),
     (
         1,
-        b"GET /buckets/b/keys/k HTTP/1.1\r\nHost: h\r\n\r\n",
+        READ_B,
         b"HTTP/1.1 200 OK\r\nContent-Type: text/plain\r\nX-Riak-Vclock: AgABAAAHAAAAAAAAAAE=\r\nContent-Length: 1\r\nX-Content-Type-Options: nosniff\r\nServer: dvvstore\r\n\r\na",
     ),
     // A hook that rejects is installed and bound by one, and is in force for the others.
-    (
-        0,
-        b"PUT /hooks/no HTTP/1.1\r\nHost: h\r\nContent-Length: 32\r\n\r\nRBPF\x01\x01\x00\x00\x80\x00\x00\x00\x00\x00\x00\x00\xb7\x00\x00\x00\x01\x01\x00\x00\x95\x00\x00\x00\x00\x00\x00\x00",
-        b"HTTP/1.1 204 No Content\r\nX-Content-Type-Options: nosniff\r\nServer: dvvstore\r\n\r\n",
-    ),
-    (
-        0,
-        b"PUT /buckets/b/props HTTP/1.1\r\nHost: h\r\nContent-Length: 28\r\n\r\n{\"props\":{\"precommit\":\"no\"}}",
-        b"HTTP/1.1 204 No Content\r\nX-Content-Type-Options: nosniff\r\nServer: dvvstore\r\n\r\n",
-    ),
-    (
-        1,
-        b"PUT /buckets/b/keys/k HTTP/1.1\r\nHost: h\r\nContent-Length: 1\r\n\r\nb",
-        b"HTTP/1.1 403 Forbidden\r\nContent-Type: text/plain\r\nContent-Length: 5\r\nX-Content-Type-Options: nosniff\r\nServer: dvvstore\r\n\r\nX3 1\n",
-    ),
+    (0, INSTALL, DONE),
+    (0, BIND, DONE),
+    (1, WRITE_B, REJECTED),
     // What each stores, another reads.
-    (
-        1,
-        b"PUT /buckets/c/keys/k HTTP/1.1\r\nHost: h\r\nContent-Type: text/plain\r\nContent-Length: 1\r\n\r\nc",
-        b"HTTP/1.1 204 No Content\r\nX-Riak-Tag: 458752-1\r\nX-Content-Type-Options: nosniff\r\nServer: dvvstore\r\n\r\n",
-    ),
+    (1, WRITE_C, WRITTEN),
     (
         2,
-        b"GET /buckets/c/keys/k HTTP/1.1\r\nHost: h\r\n\r\n",
+        READ_C,
         b"HTTP/1.1 200 OK\r\nContent-Type: text/plain\r\nX-Riak-Vclock: AgABAAAHAAAAAAAAAAE=\r\nContent-Length: 1\r\nX-Content-Type-Options: nosniff\r\nServer: dvvstore\r\n\r\nc",
     ),
     (
@@ -86,6 +103,22 @@ const TALK: [Line; 9] = [
         b"HTTP/1.1 204 No Content\r\nX-Riak-Tag: 458753-1\r\nConnection: close\r\nX-Content-Type-Options: nosniff\r\nServer: dvvstore\r\n\r\n",
     ),
 ];
+
+/// A value of so many bytes 0 is written in place of the one that was read.
+const LARGE_BYTES: usize = 65_536;
+
+const WRITE_LARGE: &[u8] =
+    b"PUT /buckets/c/keys/k HTTP/1.1\r\nHost: h\r\nX-Riak-Vclock: AgABAAAHAAAAAAAAAAE=\r\nContent-Type: text/plain\r\nContent-Length: 65536\r\n\r\n";
+
+const WRITTEN_LARGE: &[u8] =
+    b"HTTP/1.1 204 No Content\r\nX-Riak-Tag: 458752-2\r\nX-Content-Type-Options: nosniff\r\nServer: dvvstore\r\n\r\n";
+
+/// What stands before it where it is read.
+const LARGE_HEAD: &[u8] =
+    b"HTTP/1.1 200 OK\r\nContent-Type: text/plain\r\nX-Riak-Vclock: AgABAAAHAAAAAAAAAAI=\r\nContent-Length: 65536\r\nX-Content-Type-Options: nosniff\r\nServer: dvvstore\r\n\r\n";
+
+/// So often it is asked for before an answer is read: the answers are more than the 4 MiB that the system takes at the most.
+const LARGE_READS: usize = 72;
 
 /// So many seconds an answer is waited for.
 const PATIENCE: u64 = 10;
@@ -129,8 +162,33 @@ fn talk(clients: &mut [TcpStream]) -> io::Result<usize> {
     Ok(TALK.len())
 }
 
+/// Writes the large value.
+fn write_large(alloc: Global, client: &mut TcpStream) -> io::Result<bool> {
+    let value = vec![in alloc; 0u8; LARGE_BYTES]?;
+    client.write_all(WRITE_LARGE)?;
+    is_told(client, &value, WRITTEN_LARGE)
+}
+
+/// Whether a client that asks for the large value time after time, and reads nothing meanwhile, is told all of it each time.
+fn reads_large(alloc: Global, client: &mut TcpStream) -> io::Result<bool> {
+    for _ in 0..LARGE_READS {
+        client.write_all(READ_C)?;
+    }
+    let mut told = LARGE_HEAD.to_vec(alloc)?;
+    told.extend_from_slice(&vec![in alloc; 0u8; LARGE_BYTES]?)?;
+    let mut answer = vec![in alloc; 0u8; told.len()]?;
+    for _ in 0..LARGE_READS {
+        client.read_exact(&mut answer)?;
+        if answer != told {
+            return Ok(false);
+        }
+    }
+    Ok(true)
+}
+
 /// How many lines of the talk clients are told as they should be that connect there, and, where they leave only once the server hung up,
-/// how many of them see that it did. The server is told to stop where it doesn't count connections.
+/// how many of them see that it did; none where one isn't told answers whole that the system takes in pieces. The server is told to stop
+/// where it doesn't count connections.
 fn visit<R: Net<Listener = StdListener, Stream = TcpStream>>(
     alloc: Global,
     rt: &R,
@@ -140,6 +198,12 @@ fn visit<R: Net<Listener = StdListener, Stream = TcpStream>>(
 ) -> io::Result<(usize, usize)> {
     let mut clients = clients_of(alloc, rt, addr)?;
     let lines = talk(&mut clients)?;
+    let Some(client) = clients.first_mut() else {
+        return Ok((lines, 0));
+    };
+    if !write_large(alloc, client)? || !reads_large(alloc, client)? {
+        return Ok((lines, 0));
+    }
     if counts {
         return Ok((lines, CLIENTS));
     }
