@@ -108,6 +108,11 @@ def largest_number(values: Values) -> Verdict:
     return taken(greatest(None if it is None else spelled(it) for it in values))
 
 
+def greatest_text(values: Values) -> Verdict:
+    present = [it for it in values if it is not None]
+    return (256 + values.index(max(present)), None) if present else (DELETE, None)
+
+
 def of_words(length: int, join: Callable[[list[tuple[int, ...]]], list[int]]) -> Callable[[Values], Verdict]:
     """A hook of values of so many numbers of eight bytes, or tombstones."""
 
@@ -223,6 +228,21 @@ def version_rises(values: Values) -> Verdict:
     return (PASS, None) if all(version > other for other in seen) else refused(2)
 
 
+def write_once(values: Values) -> Verdict:
+    new, *others = values
+    return (PASS, None) if new is None or all(other in (None, new) for other in others) else refused(1)
+
+
+def append_only(values: Values) -> Verdict:
+    new, *others = values
+    return (PASS, None) if new is None or all(new.startswith(other or b"") for other in others) else refused(1)
+
+
+def uuid(values: Values) -> Verdict:
+    is_one = values[0] is None or re.fullmatch(rb"[0-9a-f]{8}(-[0-9a-f]{4}){3}-[0-9a-f]{12}", values[0])
+    return (PASS, None) if is_one else refused(1)
+
+
 # Values
 
 
@@ -264,6 +284,13 @@ def ascii_mostly(chance: random.Random) -> bytes:
     return bytes(text)
 
 
+def uuid_mostly(chance: random.Random) -> bytes:
+    text = bytearray(b"123e4567-e89b-12d3-a456-426614174000")
+    if chance.randrange(2):
+        text[chance.randrange(len(text))] = chance.choice(b"09afAFg/:`-\0")
+    return bytes(text) + chance.choice([b"", b"", b"", b"0", b"\0"])
+
+
 def of_length(*lengths: int) -> Callable[[random.Random], bytes]:
     return lambda chance: bytes([chance.randrange(256)]) * chance.choice(lengths)
 
@@ -298,8 +325,10 @@ class Model:
 
 MODELS = {
     "allow_list": Model(allow_list, bytes_of(b"open", b"paid", b"sent", b"returned", b"d", most=1)),
+    "append_only": Model(append_only, bytes_of(b"a", b"a", b"a", b"b", most=6)),
     "ascii": Model(ascii_alone, ascii_mostly),
     "counts_by_writer": Model(of_words(9, counts), words(9)),
+    "greatest_text": Model(greatest_text, bytes_of(b"2026-11-30", b"2026-12-01", b"a", b"\0", b"\xff", most=3)),
     "growth_limit": Model(growth_limit, of_length(0, 1, 10, 11, 1023, 1024, 1025, 1034, 1035, 2048, 2049)),
     "largest_number": Model(largest_number, NUMBERS),
     "last_millis": Model(last_by_digits(13), timed(13)),
@@ -313,7 +342,9 @@ MODELS = {
     "union_ids": Model(union_ids, some_words(12), (spread(numbered(48)), spread(numbered(49)))),
     "union_lines": Model(union_lines, LINES, (spread(lines(44), b"7\n0\n"), spread(lines(45), b"7\n0\n"), [b"7\n", *[None] * 62, b"0"])),
     "union_records": Model(union_records, some_words(16), (spread(numbered(72)), spread(numbered(73)))),
+    "uuid": Model(uuid, uuid_mostly),
     "version_rises": Model(version_rises, version),
+    "write_once": Model(write_once, bytes_of(b"same", b"same", b"same", b"sama", most=1)),
 }
 
 

@@ -317,7 +317,7 @@ def make(source, kind, in_len, out_len, image, dvvstore=None):
         image.write_bytes(head(kind, in_len, out_len) + code)
         said = verdict(dvvstore, image, lines)
         if not said.startswith("refused"):
-            return said if way == WAYS[0] else f"{said} ({' '.join(way)})"
+            return f"{said} ({' '.join(way)})" if said and way != WAYS[0] else said
         refused.append((image.read_bytes(), said))
     image.write_bytes(refused[0][0])
     return refused[0][1]
