@@ -6,9 +6,9 @@
     make_hooks.py --line my.c 3                the line of my.c that slot 3 of my.img comes from
 
 Where dvvstore is built (or named: --dvvstore PATH) it verifies what was made, and of a refusal the line of C, the instruction, the rule in
-words, what to write instead and what was known there are told at once (the command `explain`). What is refused, has too many slots or a loop is
-compiled once more without jumps and arithmetic on 32 bits, whose spills are of 8 bytes, which the verifier follows, and then with them, but
-with a jump for each test, and stays so where that is accepted.
+words, what to write instead and what was known there are told at once (the command `explain`). What is refused, has too many slots or a
+loop is compiled once more without jumps and arithmetic on 32 bits, whose spills are of 8 bytes, which the verifier follows, and then with
+them, but with a jump for each test, and stays so where that is accepted.
 """
 import argparse
 import re
@@ -63,7 +63,7 @@ WORDS_ON_CONSTANTS = (
     "constants lie in a section of their own, whose address only a linker knows: write a text as a local array, const u8 text[] = \"abc\", "
     "set the elements of an array of larger numbers one by one, and write a longer table as a switch or as arithmetic"
 )
-WORDS_ON_LOOPS = "write #pragma unroll before it and a constant count, and leave its rounds by continue, not by break"
+WORDS_ON_LOOPS = "write #pragma unroll before it and a constant count, and continue where there is no more, in place of break or return"
 WORDS_ON_SLOTS = (
     "test eight bytes at once, or copy a value to the output or a local array and read bytes at constant places there; or serve shorter "
     "values or fewer siblings"

@@ -1,8 +1,9 @@
 #!/usr/bin/env python3
 """Writes of hooks of this folder NAME.script, NAME.records, which it loads, and NAME.stdout, what it prints.
 
-Siblings of any bytes lie in the records. What a hook chooses of them stands beside them here, by the head of its source, and what a script
-prints follows from that by the rules of siblings: dvvstore isn't asked. Those pre-commit hooks that let every word of a script pass have none.
+Siblings of any bytes lie in the records. What a hook chooses of them stands beside them here, by the head of its source, and what a
+script prints follows from that by the rules of siblings: dvvstore isn't asked. Those pre-commit hooks that let every word of a script
+pass have none.
 """
 import argparse
 import struct
@@ -132,7 +133,10 @@ RESOLVERS = {
         Case(many(field(1, b"a") * 4, 63, field(0, b"b") * 3 + field(2, b"c")), write(field(1, b"a") * 3 + field(2, b"c"))),
     ],
     "union_lines": [
-        Case([lines(b"milk", b"eggs"), lines(b"bread", b"milk", b"egg"), lines(b"bread")], write(lines(b"milk", b"eggs", b"bread", b"egg"))),
+        Case(
+            [lines(b"milk", b"eggs"), lines(b"bread", b"milk", b"egg"), lines(b"bread")],
+            write(lines(b"milk", b"eggs", b"bread", b"egg")),
+        ),
         Case([b"", lines(b"a"), None, lines(b"", b"a", b"")], write(lines(b"a", b""))),
         Case([lines(b"a"), b"b"], KEEP),
         Case([None, None], DELETE),
@@ -159,10 +163,8 @@ RESOLVERS = {
 
 PRE_COMMITS = {
     "allow_list": [
-        Case(
-            [],
-            {"open": "pass", "paid": "pass", "sent": "pass", "returned": "pass", "Open": "reject 1", "ope": "reject 1", "opens": "reject 1"},
-        ),
+        Case([], {"open": "pass", "paid": "pass", "sent": "pass", "returned": "pass"}),
+        Case([], {"Open": "reject 1", "ope": "reject 1", "opens": "reject 1"}),
         Case([LIKE_ROWS] * SIBLINGS, {"sent": "pass", "lost": "reject 1"}),
     ],
     "append_only": [
