@@ -70,6 +70,13 @@ WORDS_ON_SLOTS = (
 )
 WORDS_ON_FUNCTIONS = "a hook is one function: write 'static inline __attribute__((always_inline))' before each other one"
 
+# The accessors of dvvstore.h by which the verifier sees what it lacked, by the rule that was broken.
+ACCESSORS = {
+    "V23": "at_most; row_at, number_at, value_at, bytes_at, output_at",
+    "V24": "row_at, number_at, value_at, bytes_at, output_at",
+    "V28": "copy_at, load_at, decimal_at, same_at, same_values, order_values, find_at",
+}
+
 
 class Refused(Exception):
     """Why a source makes no image, in words for its author."""
@@ -284,15 +291,17 @@ def told_by(dvvstore, command, image):
 
 
 def verdict(dvvstore, image, lines):
-    """What dvvstore says of an image, and of one that it refuses the line of the slot and what it looked at there; nothing where there is
-    none. An older one says its verdict alone."""
+    """What dvvstore says of an image, and of one that it refuses the line of the slot, what it looked at there and which accessors help;
+    nothing where there is none. An older one says its verdict alone."""
     if dvvstore is None:
         return ""
     told, *looked_at = told_by(dvvstore, "explain", image) or told_by(dvvstore, "verify", image)
-    refused = re.fullmatch(r"refused [DV]\d+ (\d+)", told)
+    refused = re.fullmatch(r"refused ([DV]\d+) (\d+)", told)
     if not refused:
         return told
-    return "\n    ".join([f"{told}, {lines[int(refused[1])]}", *looked_at])
+    rule, slot = refused.groups()
+    helped_by = [f"accessors: {ACCESSORS[rule]}"] if rule in ACCESSORS else []
+    return "\n    ".join([f"{told}, {lines[int(slot)]}", *looked_at, *helped_by])
 
 
 def built_in_ways(source, in_len, out_len):
