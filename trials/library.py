@@ -344,7 +344,7 @@ MODELS = {
     "union_records": Model(union_records, some_words(16), (spread(numbered(72)), spread(numbered(73)))),
     "uuid": Model(uuid, uuid_mostly),
     "version_rises": Model(version_rises, version),
-    "write_once": Model(write_once, bytes_of(b"same", b"same", b"same", b"sama", most=1)),
+    "write_once": Model(write_once, bytes_of(b"same", b"same", b"same", b"sama", most=1), ([b"same", None, b"same"], [b"same", None])),
 }
 
 
