@@ -3,8 +3,8 @@
 Each hook has a model in Python here, which was written from the head of its source. It is run on layouts as a store makes them: of 1 to
 64 siblings or a new content beside some, of values that the hook is for, of values that read as rows, and with a last value that ends
 at the window's last byte. Its answer, and the value that it writes, have to be the model's. On bytes that are no layout it has to come
-to an end. Where the compiler is the one that made the images they are made anew, and have to be the same; and the accessors that
-hooks read by are tried on offsets and lengths round the windows' ends.
+to an end. Where the compiler is the one that made the images they are made anew, and have to be the same; the accessors that hooks read
+by are tried on offsets and lengths round the windows' ends; and a hook that is too long in one way of compiling has to be made in another.
 """
 from __future__ import annotations
 
@@ -106,6 +106,11 @@ def longest_value(values: Values) -> Verdict:
 
 def largest_number(values: Values) -> Verdict:
     return taken(greatest(None if it is None else spelled(it) for it in values))
+
+
+def greatest_text(values: Values) -> Verdict:
+    present = [it for it in values if it is not None]
+    return (256 + values.index(max(present)), None) if present else (DELETE, None)
 
 
 def of_words(length: int, join: Callable[[list[tuple[int, ...]]], list[int]]) -> Callable[[Values], Verdict]:
@@ -223,6 +228,21 @@ def version_rises(values: Values) -> Verdict:
     return (PASS, None) if all(version > other for other in seen) else refused(2)
 
 
+def write_once(values: Values) -> Verdict:
+    new, *others = values
+    return (PASS, None) if new is None or all(other in (None, new) for other in others) else refused(1)
+
+
+def append_only(values: Values) -> Verdict:
+    new, *others = values
+    return (PASS, None) if new is None or all(new.startswith(other or b"") for other in others) else refused(1)
+
+
+def uuid(values: Values) -> Verdict:
+    is_one = values[0] is None or re.fullmatch(rb"[0-9a-f]{8}(-[0-9a-f]{4}){3}-[0-9a-f]{12}", values[0])
+    return (PASS, None) if is_one else refused(1)
+
+
 # Values
 
 
@@ -264,6 +284,13 @@ def ascii_mostly(chance: random.Random) -> bytes:
     return bytes(text)
 
 
+def uuid_mostly(chance: random.Random) -> bytes:
+    text = bytearray(b"123e4567-e89b-12d3-a456-426614174000")
+    if chance.randrange(2):
+        text[chance.randrange(len(text))] = chance.choice(b"09afAFg/:`-\0")
+    return bytes(text) + chance.choice([b"", b"", b"", b"0", b"\0"])
+
+
 def of_length(*lengths: int) -> Callable[[random.Random], bytes]:
     return lambda chance: bytes([chance.randrange(256)]) * chance.choice(lengths)
 
@@ -298,8 +325,10 @@ class Model:
 
 MODELS = {
     "allow_list": Model(allow_list, bytes_of(b"open", b"paid", b"sent", b"returned", b"d", most=1)),
+    "append_only": Model(append_only, bytes_of(b"a", b"a", b"a", b"b", most=6)),
     "ascii": Model(ascii_alone, ascii_mostly),
     "counts_by_writer": Model(of_words(9, counts), words(9)),
+    "greatest_text": Model(greatest_text, bytes_of(b"2026-11-30", b"2026-12-01", b"a", b"\0", b"\xff", most=3)),
     "growth_limit": Model(growth_limit, of_length(0, 1, 10, 11, 1023, 1024, 1025, 1034, 1035, 2048, 2049)),
     "largest_number": Model(largest_number, NUMBERS),
     "last_millis": Model(last_by_digits(13), timed(13)),
@@ -313,7 +342,9 @@ MODELS = {
     "union_ids": Model(union_ids, some_words(12), (spread(numbered(48)), spread(numbered(49)))),
     "union_lines": Model(union_lines, LINES, (spread(lines(44), b"7\n0\n"), spread(lines(45), b"7\n0\n"), [b"7\n", *[None] * 62, b"0"])),
     "union_records": Model(union_records, some_words(16), (spread(numbered(72)), spread(numbered(73)))),
+    "uuid": Model(uuid, uuid_mostly),
     "version_rises": Model(version_rises, version),
+    "write_once": Model(write_once, bytes_of(b"same", b"same", b"same", b"sama", most=1), ([b"same", None, b"same"], [b"same", None])),
 }
 
 
@@ -443,12 +474,15 @@ def drawn_for_accessors(chance: random.Random) -> bytes:
     return struct.pack("<3Q", edge(chance), length, edge(chance)) + text
 
 
-def made_accessors(image: Path, program: Path) -> str:
-    """Makes the image of the program that calls the accessors. Gives what the verifier says of it."""
+def made(source: Path, kind: str, image: Path, program: Path) -> str:
+    """Makes an image, with windows of BYTES. Gives what the verifier says of it, or why there is none."""
     sys.path.insert(0, str(FOLDER.parent))
     import make_hooks
 
-    return make_hooks.make(ACCESSORS, "plain", BYTES, BYTES, image, program)
+    try:
+        return make_hooks.make(source, kind, BYTES, BYTES, image, program)
+    except make_hooks.Refused as why:
+        return str(why)
 
 
 # Runs
@@ -529,7 +563,7 @@ def try_accessors(found: Findings, program: Path, count: int, chance: random.Ran
     """Whether the accessors come to what the header says, on so many inputs."""
     with tempfile.TemporaryDirectory() as folder:
         image = Path(folder, "accessors.img")
-        said = made_accessors(image, program)
+        said = made(ACCESSORS, "plain", image, program)
         if not found.hold(said.startswith("accepted"), f"{ACCESSORS.name}: {said}"):
             return
 
@@ -543,6 +577,34 @@ def try_accessors(found: Findings, program: Path, count: int, chance: random.Ran
                 found.hold(not fault, fault)
 
 
+# Ways of compiling
+
+UPPER = C_SOURCES / "upper.c"
+UPPER_MOST = 256
+# What is changed in it, and what is said of it then.
+UNFIT = {
+    "MOST 256": ("MOST 400", r"\d+ slots are over 4096, \d+ of them upper.c:\d+, .*"),
+    "pragma unroll": ("pragma nounroll", r"upper.c:\d+: a loop that is not unrolled goes back to upper.c:\d+: .*"),
+}
+
+
+def try_ways(found: Findings, program: Path, chance: random.Random) -> None:
+    """Whether a hook that is too long in the first way of compiling is made in another, and what is in none is told so."""
+    with tempfile.TemporaryDirectory() as folder:
+        image, changed = Path(folder, "upper.img"), Path(folder, UPPER.name)
+        said = made(UPPER, "pre-commit", image, program)
+        if found.hold(re.fullmatch(r"accepted \d+ \(.+\)", said), f"{UPPER.name} is accepted in a way but the first: {said}"):
+            for length in (0, 1, UPPER_MOST, UPPER_MOST + 1):
+                value = chance.randbytes(length)
+                wanted = (WRITE, value.upper()) if length <= UPPER_MOST else refused(1)
+                seen = told(program, image, layout(PRE_COMMIT, [value], chance)).verdict()
+                found.hold(seen == wanted, f"{UPPER.name}: {words_of(seen)} in place of {words_of(wanted)}")
+        for text, (other, wanted) in UNFIT.items():
+            changed.write_text(UPPER.read_text(encoding="utf-8").replace(text, other), encoding="utf-8")
+            said = made(changed, "pre-commit", image, program)
+            found.hold(re.fullmatch(wanted, said), f"{other}: {said}")
+
+
 def run(program: Path, seed: int, size: Size) -> Result:
     found, chance = Findings(), random.Random(seed)
     found.hold({path.stem for path in FOLDER.glob("*.c")} == set(MODELS), f"each hook has a model: {', '.join(MODELS)}")
@@ -551,6 +613,7 @@ def run(program: Path, seed: int, size: Size) -> Result:
         found.say(f"nothing is compiled: {why}")
     else:
         try_accessors(found, program, 2 * size.layouts, chance)
+        try_ways(found, program, chance)
     if size.are_made and not why:
         try_generator(found, FOLDER / "make_library.py", program)
     for name in MODELS:

@@ -156,8 +156,8 @@ ACCESSOR u64 copy_at(u8 *output, u64 place, const u8 *input, u64 offset, u64 len
     return 1;
 }
 
-/* Copies so many bytes (length) from an offset of the input into a local array of `most` bytes, a constant, in which single bytes are read at
- * constant places. 1 where it is done; 0, and nothing is copied, where they are more than that, or don't lie in the input. */
+/* Copies so many bytes (length) from an offset of the input into a local array of `most` bytes, a constant, in which single bytes are
+ * read at constant places. 1 where it is done; 0, and nothing is copied, where they are more than that, or don't lie in the input. */
 ACCESSOR u64 load_at(void *array, u64 most, const u8 *input, u64 offset, u64 length)
 {
     if (!LIES_IN(offset, length, INPUT_WINDOW)) return 0;

@@ -6,9 +6,9 @@
     make_hooks.py --line my.c 3                the line of my.c that slot 3 of my.img comes from
 
 Where dvvstore is built (or named: --dvvstore PATH) it verifies what was made, and of a refusal the line of C, the instruction, the rule in
-words, what to write instead and what was known there are told at once (the command `explain`). What is refused, has too many slots or a loop is
-compiled once more without jumps and arithmetic on 32 bits, whose spills are of 8 bytes, which the verifier follows, and then with them, but
-with a jump for each test, and stays so where that is accepted.
+words, what to write instead and what was known there are told at once (the command `explain`). What is refused, has too many slots or a
+loop is compiled once more without jumps and arithmetic on 32 bits, whose spills are of 8 bytes, which the verifier follows, and then with
+them, but with a jump for each test, and stays so where that is accepted.
 """
 import argparse
 import re
@@ -63,12 +63,19 @@ WORDS_ON_CONSTANTS = (
     "constants lie in a section of their own, whose address only a linker knows: write a text as a local array, const u8 text[] = \"abc\", "
     "set the elements of an array of larger numbers one by one, and write a longer table as a switch or as arithmetic"
 )
-WORDS_ON_LOOPS = "write #pragma unroll before it and a constant count, and leave its rounds by continue, not by break"
+WORDS_ON_LOOPS = "write #pragma unroll before it and a constant count, and continue where there is no more, in place of break or return"
 WORDS_ON_SLOTS = (
     "test eight bytes at once, or copy a value to the output or a local array and read bytes at constant places there; or serve shorter "
     "values or fewer siblings"
 )
 WORDS_ON_FUNCTIONS = "a hook is one function: write 'static inline __attribute__((always_inline))' before each other one"
+
+# The accessors of dvvstore.h by which the verifier sees what it lacked, by the rule that was broken.
+ACCESSORS = {
+    "V23": "at_most; row_at, number_at, value_at, bytes_at, output_at",
+    "V24": "row_at, number_at, value_at, bytes_at, output_at",
+    "V28": "copy_at, load_at, decimal_at, same_at, same_values, order_values, find_at",
+}
 
 
 class Refused(Exception):
@@ -284,15 +291,17 @@ def told_by(dvvstore, command, image):
 
 
 def verdict(dvvstore, image, lines):
-    """What dvvstore says of an image, and of one that it refuses the line of the slot and what it looked at there; nothing where there is
-    none. An older one says its verdict alone."""
+    """What dvvstore says of an image, and of one that it refuses the line of the slot, what it looked at there and which accessors help;
+    nothing where there is none. An older one says its verdict alone."""
     if dvvstore is None:
         return ""
     told, *looked_at = told_by(dvvstore, "explain", image) or told_by(dvvstore, "verify", image)
-    refused = re.fullmatch(r"refused [DV]\d+ (\d+)", told)
+    refused = re.fullmatch(r"refused ([DV]\d+) (\d+)", told)
     if not refused:
         return told
-    return "\n    ".join([f"{told}, {lines[int(refused[1])]}", *looked_at])
+    rule, slot = refused.groups()
+    helped_by = [f"accessors: {ACCESSORS[rule]}"] if rule in ACCESSORS else []
+    return "\n    ".join([f"{told}, {lines[int(slot)]}", *looked_at, *helped_by])
 
 
 def built_in_ways(source, in_len, out_len):
@@ -317,7 +326,7 @@ def make(source, kind, in_len, out_len, image, dvvstore=None):
         image.write_bytes(head(kind, in_len, out_len) + code)
         said = verdict(dvvstore, image, lines)
         if not said.startswith("refused"):
-            return said if way == WAYS[0] else f"{said} ({' '.join(way)})"
+            return f"{said} ({' '.join(way)})" if said and way != WAYS[0] else said
         refused.append((image.read_bytes(), said))
     image.write_bytes(refused[0][0])
     return refused[0][1]

@@ -1,6 +1,6 @@
-/* resolver 65536 0: takes the value with the latest time. A value begins with its time, thirteen digits (milliseconds since 1970), and goes on as
- * it likes. Of equal times the first sibling is taken. A tombstone, and a value that begins otherwise, counts as older than every
- * time; where no sibling has a time they are kept. Serves 64 siblings, each of any length. */
+/* resolver 65536 0: takes the value with the latest time. A value begins with its time, thirteen digits (milliseconds since 1970), and
+ * goes on as it likes. Of equal times the first sibling is taken. A tombstone, and a value that begins otherwise, counts as older
+ * than every time; where no sibling has a time they are kept. Serves 64 siblings, each of any length. */
 #include "dvvstore.h"
 #define SIBLINGS 64
 #define DIGITS 13

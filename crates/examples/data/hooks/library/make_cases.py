@@ -1,8 +1,9 @@
 #!/usr/bin/env python3
 """Writes of hooks of this folder NAME.script, NAME.records, which it loads, and NAME.stdout, what it prints.
 
-Siblings of any bytes lie in the records. What a hook chooses of them stands beside them here, by the head of its source, and what a script
-prints follows from that by the rules of siblings: dvvstore isn't asked. Pre-commit hooks whose answer no word of a script can change have none.
+Siblings of any bytes lie in the records. What a hook chooses of them stands beside them here, by the head of its source, and what a
+script prints follows from that by the rules of siblings: dvvstore isn't asked. Those pre-commit hooks that let every word of a script
+pass have none.
 """
 import argparse
 import struct
@@ -89,6 +90,13 @@ RESOLVERS = {
         Case([None, None], take(0)),
         Case(many(b"some", 40, LIKE_ROWS), take(40)),
     ],
+    "greatest_text": [
+        Case([b"2026-11-30 open", b"2026-12-01", None, b"2026-12-01"], take(1)),
+        Case([b"a", b"a\0", b"Z", b""], take(1)),
+        Case([None, b""], take(1)),
+        Case([None, None], DELETE),
+        Case(many(b"\x7f" * 99, 63, b"\x80"), take(63)),
+    ],
     "largest_number": [
         Case([b"9", b"10", b"x", None, b"010"], take(1)),
         Case([b"x", b"", None, b"1" * 20, LIKE_ROWS], KEEP),
@@ -125,7 +133,10 @@ RESOLVERS = {
         Case(many(field(1, b"a") * 4, 63, field(0, b"b") * 3 + field(2, b"c")), write(field(1, b"a") * 3 + field(2, b"c"))),
     ],
     "union_lines": [
-        Case([lines(b"milk", b"eggs"), lines(b"bread", b"milk", b"egg"), lines(b"bread")], write(lines(b"milk", b"eggs", b"bread", b"egg"))),
+        Case(
+            [lines(b"milk", b"eggs"), lines(b"bread", b"milk", b"egg"), lines(b"bread")],
+            write(lines(b"milk", b"eggs", b"bread", b"egg")),
+        ),
         Case([b"", lines(b"a"), None, lines(b"", b"a", b"")], write(lines(b"a", b""))),
         Case([lines(b"a"), b"b"], KEEP),
         Case([None, None], DELETE),
@@ -152,19 +163,30 @@ RESOLVERS = {
 
 PRE_COMMITS = {
     "allow_list": [
-        Case(
-            [],
-            {"open": "pass", "paid": "pass", "sent": "pass", "returned": "pass", "Open": "reject 1", "ope": "reject 1", "opens": "reject 1"},
-        ),
+        Case([], {"open": "pass", "paid": "pass", "sent": "pass", "returned": "pass"}),
+        Case([], {"Open": "reject 1", "ope": "reject 1", "opens": "reject 1"}),
         Case([LIKE_ROWS] * SIBLINGS, {"sent": "pass", "lost": "reject 1"}),
     ],
+    "append_only": [
+        Case([], {"a": "pass"}),
+        Case([b"ab", b"", None], {"ab": "pass", "abc": "pass", "a": "reject 1", "ba": "reject 1"}),
+        Case([LIKE_ROWS], {"a": "reject 1"}),
+        Case(many(b"0", 63, b"01"), {"012": "pass", "02": "reject 1"}),
+    ],
     "prefix": [Case([], {"user": "reject 1", "userA1": "reject 1", "u": "reject 1"})],
+    "uuid": [Case([], {"123e4567e89b12d3a456426614174000": "reject 1", "123e4567ae89ba12d3aa456a426614174000": "reject 1"})],
     "version_rises": [
         Case([], {"abc": "reject 1", "0000": "pass", "00001": "pass"}),
         # The lowest byte comes first.
         Case([b"aaab", None, b"zzz"], {"aaac": "pass", "aaab": "reject 2", "zzza": "reject 2", "baabx": "pass"}),
         Case([numbers(2**32 - 1, size=4) + LIKE_ROWS], {"zzzz": "reject 2"}),
         Case(many(b"0000", 63, b"0001"), {"0001": "reject 2", "0002": "pass"}),
+    ],
+    "write_once": [
+        Case([], {"a": "pass"}),
+        Case([b"a", None, b"a"], {"a": "pass", "b": "reject 1", "aa": "reject 1"}),
+        Case([None], {"b": "pass"}),
+        Case(many(b"a", 63, b"b"), {"a": "reject 1", "b": "reject 1"}),
     ],
 }
 
