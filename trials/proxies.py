@@ -109,6 +109,8 @@ ASKED: tuple[tuple[str, str, str, int], ...] = (
     ("app", "PUT", "/buckets//props", 403),
     ("app", "PUT", "/buckets/b//props", 403),
     ("app", "PUT", "/buckets/b/%70rops", 403),
+    ("app", "PUT", "/buckets/b%2Fkeys/props", 403),
+    ("app", "PUT", "/types/default%2Fbuckets/b/props", 403),
     ("app", "PUT", "/buckets/b/props?/buckets/b/keys/k", 403),
     ("app", "PUT", "/buckets/b/props#/buckets/b/keys/k", 403),
     ("app", "PUT", "/buckets/b/keys/k#/../../props", 403),
@@ -156,7 +158,7 @@ PARTS = (
 MOST_PARTS = 8
 DRAWN_AFTER = (
     *("", "/buckets/b", "/buckets/b/keys/k", "/buckets/keys/keys", "/hooks/no", "/buckets/b/props"),
-    *("/types/default/buckets/b", "/riak/b"),
+    *("/types/default/buckets/b", "/riak/b", "/buckets/b%2Fkeys", "/buckets/b%2fkeys/props", "/buckets/b%3F/props"),
 )
 
 
