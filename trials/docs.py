@@ -3,11 +3,13 @@
 Each document below has sessions in a shell, as sessions.py says, a server and a copy of the repository of its own, and begins at its
 top.
 
-The page of trials is compared with the trials: it has a row for each, with the promise that stands there. What the program prints of
-its version and its toolchain is compared with CHANGELOG.md and README.md.
+The page of trials is compared with the trials: it has a row for each, with the promise that stands there. Each command line of the page
+of operations has to be one that a trial picks out by a word of its own, and runs. What the program prints of its version and its
+toolchain is compared with CHANGELOG.md and README.md.
 """
 from __future__ import annotations
 
+import ast
 import re
 import shutil
 import subprocess
@@ -16,7 +18,7 @@ from pathlib import Path
 
 from server import Server
 from sessions import Shell, try_sessions
-from trial import NOT_COPIED, TOP, Findings, Result, Whole, tool
+from trial import NOT_COPIED, TOP, Findings, Result, Whole, lines_of_page, tool
 
 NAME = "docs"
 PROMISES = "The command lines of the documents print what stands behind them; each trial has its row."
@@ -26,6 +28,10 @@ FULL = SHORT = Whole()
 # What a document needs besides bash and curl.
 DOCUMENTS: dict[str, tuple[str, ...]] = {"README.md": (), "docs/HTTP.md": (), "docs/HOOKS.md": ("clang", "llvm-objdump", "llvm-objcopy")}
 TESTING = "docs/TESTING.md"
+# The page whose lines are run by trials of their own, and the shortest text by which one is picked out.
+OPERATIONS = "docs/OPERATIONS.md"
+RUN_ITS_LINES = ("service", "systemd", "container", "proxies")
+LEAST_WORD = 6
 CHANGES = "CHANGELOG.md"
 END_SECONDS = 60
 
@@ -55,6 +61,21 @@ def try_page_of_trials(found: Findings) -> None:
     found.hold(set(rows) <= set(runner.NAMES), f"{TESTING} has rows of trials alone: {set(rows) - set(runner.NAMES)}")
 
 
+def texts_of(source: Path) -> set[str]:
+    """The texts that stand in a trial."""
+    nodes = ast.walk(ast.parse(source.read_text(encoding="utf-8")))
+    return {node.value for node in nodes if isinstance(node, ast.Constant) and isinstance(node.value, str)}
+
+
+def try_page_of_operations(found: Findings) -> None:
+    """Whether each command line of the page has a word in a trial that no other line of it has."""
+    lines = lines_of_page(TOP / OPERATIONS)
+    words = set().union(*(texts_of(TOP / "trials" / f"{name}.py") for name in RUN_ITS_LINES))
+    for line in lines:
+        is_run = any(len(word) >= LEAST_WORD and word in line and sum(word in other for other in lines) == 1 for word in words)
+        found.hold(is_run, f"{OPERATIONS}: no trial runs `{line}`")
+
+
 def try_version(found: Findings, program: Path) -> None:
     """Whether the program's version is the latest that the list of changes has, and its toolchain the one that README.md names."""
     told = subprocess.run([program, "version"], capture_output=True, text=True, timeout=END_SECONDS).stdout
@@ -75,5 +96,6 @@ def run(program: Path, seed: int, size: Whole) -> Result:
         else:
             counts.append(try_document(found, name, program))
     try_page_of_trials(found)
+    try_page_of_operations(found)
     try_version(found, program)
     return found.result(f"{sum(counts)} commands of {len(counts)} documents")

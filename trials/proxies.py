@@ -1,10 +1,11 @@
 """Has nginx and stunnel stand before a store, by the files of the folder service, and asks it through them as each of its users.
 
 The files are taken as they are, but for ports, folders and the rate; certificates and passwords are made by the lines of
-docs/OPERATIONS.md. Through nginx each user has to be let through or refused as the page says, whatever a target looks like: a bucket `a/b`, spelled `a%2Fb`, has its properties set by the admin alone. Nothing of what was refused may have reached the
-store. Of targets that are drawn from the parts of routes, escapes, dots and slashes, a writer's PUT and DELETE may write a key or be
-refused, and nothing else. Values and contexts of the greatest length have to pass, and of many requests at once no more than the burst
-and the rate. Through stunnel the holder of a certificate that is listed is served, and nobody else.
+docs/OPERATIONS.md. Through nginx each user has to be let through or refused as the page says, whatever a target looks like: a bucket
+`a/b`, spelled `a%2Fb`, has its properties set by the admin alone. Nothing of what was refused may have reached the store. Of targets that
+are drawn from the parts of routes, escapes, dots and slashes, a writer's PUT and DELETE may write a key or be refused, and nothing else.
+Values and contexts of the greatest length have to pass, and of many requests at once no more than the burst and the rate. Through stunnel
+the holder of a certificate that is listed is served, and nobody else.
 """
 from __future__ import annotations
 
@@ -108,6 +109,8 @@ ASKED: tuple[tuple[str, str, str, int], ...] = (
     ("app", "PUT", "/buckets//props", 403),
     ("app", "PUT", "/buckets/b//props", 403),
     ("app", "PUT", "/buckets/b/%70rops", 403),
+    ("app", "PUT", "/buckets/b%2Fkeys/props", 403),
+    ("app", "PUT", "/types/default%2Fbuckets/b/props", 403),
     ("app", "PUT", "/buckets/b/props?/buckets/b/keys/k", 403),
     ("app", "PUT", "/buckets/b/props#/buckets/b/keys/k", 403),
     ("app", "PUT", "/buckets/b/keys/k#/../../props", 403),
@@ -155,7 +158,7 @@ PARTS = (
 MOST_PARTS = 8
 DRAWN_AFTER = (
     *("", "/buckets/b", "/buckets/b/keys/k", "/buckets/keys/keys", "/hooks/no", "/buckets/b/props"),
-    *("/types/default/buckets/b", "/riak/b"),
+    *("/types/default/buckets/b", "/riak/b", "/buckets/b%2Fkeys", "/buckets/b%2fkeys/props", "/buckets/b%3F/props"),
 )
 
 

@@ -32,8 +32,8 @@ FULL = SHORT = Whole()
 PAGE = TOP / "docs" / "OPERATIONS.md"
 UNIT = "dvvstore"
 STORE = "http://127.0.0.1:8098"
-PROGRAMS = {"nginx": "nginx", "stunnel": "stunnel4"}
 PASSWORD = "none"
+FOR_THE_SYSTEM = "/usr/bin:/usr/sbin"
 BOOT_SECONDS = 300
 # There is nobody to be asked at a first boot, and no network to be waited for.
 BOOTED_WITH = ("systemd.firstboot=off", "systemd.mask=systemd-networkd-wait-online.service", "systemd.unit=trial.service")
@@ -110,16 +110,17 @@ def of_stunnel() -> list[Step]:
     ]
 
 
+# Each proxy's folder in /etc, its program, and its steps. They come one behind the other, since both listen at one port.
+PROXIES = {"nginx": ("nginx", of_nginx), "stunnel": ("stunnel4", of_stunnel)}
+
+
+def proxies() -> list[str]:
+    """The proxies that the machine has."""
+    return [name for name, (program, _) in PROXIES.items() if Path("/etc", name).is_dir() and shutil.which(program, path=FOR_THE_SYSTEM)]
+
+
 def of_proxies() -> list[Step]:
-    """What is put before the store, one behind the other, since both listen at one port."""
-    return [step for name, make in PROXIES.items() if has_proxy(name) for step in make()]
-
-
-PROXIES = {"nginx": of_nginx, "stunnel": of_stunnel}
-
-
-def has_proxy(name: str) -> bool:
-    return Path("/etc", name).is_dir() and any(Path(folder, PROGRAMS[name]).exists() for folder in ("/usr/sbin", "/usr/bin"))
+    return [step for name in proxies() for step in PROXIES[name][1]()]
 
 
 def steps() -> list[Step]:
@@ -159,7 +160,7 @@ def boot(room: Path, top: str) -> str:
     service.write_text(RUNS_THE_SCRIPT.format(top=top), encoding="utf-8")
     words = [tool("systemd-nspawn"), "--directory=/", "--volatile=yes", "--register=no", "--keep-unit", "--private-network", "--quiet"]
     words += [f"--machine={room.name}", f"--bind={room}:/trial", f"--bind-ro={service}:/etc/systemd/system/trial.service"]
-    for name in filter(has_proxy, PROXIES):
+    for name in proxies():
         shutil.copytree(Path("/etc", name), room / name, symlinks=True)
         words += [f"--bind={room / name}:/etc/{name}"]
     words += ["--bind-ro=/etc/ssl", "--tmpfs=/usr/local/bin", "--boot", *BOOTED_WITH]
@@ -193,5 +194,4 @@ def run(program: Path, seed: int, size: Whole) -> Result:
         if not (room / "security.status").exists():
             raise ValueError(f"systemd came to no end: {printed[-600:]}")
         exposure = try_steps(found, room)
-    proxies = " and ".join(filter(has_proxy, PROXIES)) or "no proxy"
-    return found.result(f"{len(steps())} steps, {proxies}, {exposure} of 10 left open")
+    return found.result(f"{len(steps())} steps, {' and '.join(proxies()) or 'no proxy'}, {exposure} of 10 left open")

@@ -101,10 +101,15 @@ def library(source: str, made: Path) -> Path:
     return compiled(source, made, "-ldl", before=COMPILE_LIBRARY)
 
 
-def line_of_page(page: Path, word: str) -> str:
-    """The one command line of a page that has this word; one that ends by a backslash goes on in the next."""
+def lines_of_page(page: Path) -> list[str]:
+    """The command lines of a page; one that ends by a backslash goes on in the next."""
     text = page.read_text(encoding="utf-8").replace("\\\n", "")
-    lines = [line.strip() for line in text.splitlines() if line.startswith("    ") and word in line]
+    return [line.strip() for line in text.splitlines() if line.startswith("    ")]
+
+
+def line_of_page(page: Path, word: str) -> str:
+    """The one command line of a page that has this word."""
+    lines = [line for line in lines_of_page(page) if word in line]
     if len(lines) != 1:
         raise ValueError(f"{page.name} has {len(lines)} lines with {word!r}")
     return lines[0]
