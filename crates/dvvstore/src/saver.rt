@@ -275,6 +275,7 @@ impl<F: Folder> Shelf<F> {
     /// Replaces the file of the requests that install and bind hooks. It stays where one of them is lacking, or memory for them.
     fn write_requests<R: Wait>(&mut self, rt: &R, signs: &Signs<'_>) -> Result<(), Unreplaced>
         ensures put { OnOk result (AreListed F.does self.old.folder self.new.folder) }
+        ensures first { self.new.first ≡ self.old.first }
     {
         match signs.requests(rt) {
             Ok(Some(requests)) => keep_requests(self.alloc, &mut self.folder, Some(&requests)),

@@ -150,7 +150,7 @@ impl<'a, B: Room + Spot> Floor<'a, B> {
         shared: &'a Shared<B>,
     ) -> Floor<'a, B>
         requires first { cluster.now.first ≡ B.first }
-        ensures cluster { result.cluster ≡ cluster }
+        ensures cluster { result.cluster.now ≡ cluster.now }
     {
         Floor {
             alloc,
