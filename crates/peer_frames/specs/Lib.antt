@@ -1,0 +1,4 @@
+pub mod Frames
+pub mod Fronts
+pub mod Sealing
+pub mod Hellos
