@@ -91,12 +91,20 @@ fn written<B: Room, R: Wait>(
     gathered(cluster, passes)
 }
 
-/// The vnodes of a cluster are made by the seed with which it is opened, each of them.
-#[test]
-fn a_cluster_deals_its_seed(rt: HostRuntime) -> Result<(), Fail> {
+/// The vnodes of a cluster that is opened with a seed are each made by it.
+fn deals<B: Room, R: Wait>(rt: &R, alloc: Global, stamps: Stamps, card: Card) -> Result<(), Fail>
+    requires table { (stamps.table.shared.table_id ≡ B.table) × (card.table_id ≡ B.table) }
+    requires size { stamps.table.shared.key ≡ record { first = 0; vnodes = 2; passes = 1 } }
+    requires card { card.me ≡ (newcomer stamps.table.shared.key, []) }
+{
     let seed = Seed::random(&Constant(1))?;
-    let (stamps, card) = Stamps::new(rt.alloc(), &TWO_BY_ONE)?;
-    let vnodes = written::<Brand, _>(&rt, rt.alloc(), seed, stamps, card)?;
+    let vnodes = written::<B, R>(rt, alloc, seed, stamps, card)?;
     expect(vnodes.len() == 2, &vnodes.len())?;
     are_seeded(seed, &vnodes)
+}
+
+#[test]
+fn a_cluster_deals_its_seed(rt: HostRuntime) -> Result<(), Fail> {
+    let (stamps, card) = Stamps::new(rt.alloc(), &TWO_BY_ONE)?;
+    deals::<Brand, _>(&rt, rt.alloc(), stamps, card)
 }
