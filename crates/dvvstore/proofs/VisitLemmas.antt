@@ -201,7 +201,7 @@ pub begins_from : {H F B E : Type 0} (finds : H → List ℕ → ImageKind → R
     → IfOk served (λ s. AfterAnswers finds names takes starts s.closed.vnodes.items (λ told. AreGathered first told begun.spares.items s.closed.vnodes.items) × More s)
     → IfOk served (λ s. BeginWithFiles s.closed.vnodes.items first files vnodes)
 begins_from finds names takes starts folder first vnodes files begun (Err why) More stand has many kept = kept
-begins_from finds names takes starts folder first vnodes files begun (Ok s) More stand (fresh, loaded, fronts, number) many kept =
+begins_from finds names takes starts folder first vnodes files begun (Ok s) More stand (fresh, loaded, spared, fronts, number) many kept =
     let logs = s.closed.vnodes.items in
     let found = gathered_after finds names takes starts first begun.spares.items logs kept.0 in
     all_begin stand logs files first vnodes found.0 fresh begun.spares.items many loaded found.1

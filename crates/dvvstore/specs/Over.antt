@@ -37,7 +37,7 @@ module _ {F : Type 0} (finds : F → List ℕ → Option (List ℕ) → Type 0) 
     pub set : (found : Option (List ℕ)) × finds old (codes "settings") found × IsSetBy found opened.held.settings
     pub next : (last : ℕ) → opened.held.last ≡ Some last → last < opened.number
     pub above : (id : ℕ) → Contains (all_ids opened.held.files.items) id → id / 256 < opened.number
-    pub minute : minute ≤ opened.number
+    pub least : minute ≤ opened.number
     pub put : IsPut does old (codes "incarnation") (sealed (number_text opened.number)) mid
 
   -- A store was kept in a folder. Its start read what the folder held, and so many vnodes, whose identifiers have the start's number, began with all of it, placed and

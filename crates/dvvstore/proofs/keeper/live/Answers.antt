@@ -10,7 +10,7 @@ use Rattle.dvvstore.proofs.keeper.live.Goals as goal
 
 pub returns-in-Open-clause-kept : goal.returns-in-Open-clause-kept
 returns-in-Open-clause-kept g c =
-    let (fresh, loaded, fronts, number) = c.requires.begun in
+    let (fresh, loaded, spared, fronts, number) = c.requires.begun in
     let stay = c.args.stay in
     let files = stay.held.files.items in
     let id = c.args.staffed.cluster.first in
@@ -32,7 +32,7 @@ returns-clause-told g c =
 
 pub returns-clause-kept : goal.returns-clause-kept
 returns-clause-kept g c =
-    let (fresh, loaded, fronts, number) = c.requires.begun in
+    let (fresh, loaded, spared, fronts, number) = c.requires.begun in
     let stay = c.args.stay in
     let files = stay.held.files.items in
     let id = c.args.staffed.cluster.first in

@@ -13,11 +13,11 @@ pub returns-in-Ok-Lost-clause-told : goal.returns-in-Ok-Lost-clause-told
 returns-in-Ok-Lost-clause-told g c =
     kept_where_told (g.O.Write.contents c.args.out.now) (g.O.Write.contents c.live.new.out) (g.O.Write.contents c.lose.new.out) c.lose.result c.in-Ok-Lost.ensures.told c.lose.ensures.told
 
-pub returns-clause-refused : goal.returns-clause-refused
-returns-clause-refused g c = refused_so c.in-Err-live.why _ (g.O.Write.contents c.live.new.out) _ _ c.in-Err-live.ensures.told c.unserved.ensures.refused
+pub returns-in-Err-live-clause-refused : goal.returns-in-Err-live-clause-refused
+returns-in-Err-live-clause-refused g c = refused_so c.in-Err-live.why _ (g.O.Write.contents c.live.new.out) _ _ c.in-Err-live.ensures.told c.unserved.ensures.refused
 
-pub returns-clause-untold : goal.returns-clause-untold
-returns-clause-untold g c = unserved_so c.in-Err-live.why _ (g.O.Write.contents c.live.new.out) _ _ c.in-Err-live.ensures.told c.unserved.ensures.memory
+pub returns-in-Err-live-clause-untold : goal.returns-in-Err-live-clause-untold
+returns-in-Err-live-clause-untold g c = unserved_so c.in-Err-live.why _ (g.O.Write.contents c.live.new.out) _ _ c.in-Err-live.ensures.told c.unserved.ensures.memory
 
 pub returns-in-Ok-Kept-clause-kept : goal.returns-in-Ok-Kept-clause-kept
 returns-in-Ok-Kept-clause-kept g c =
@@ -29,7 +29,7 @@ returns-in-Ok-Kept-clause-kept g c =
     let held = c.in-Ok-held.held in
     let tables = map (λ t. t.listed) c.args.keeping.tables.items in
     let size : Size = record { first = opened.number * 256; vnodes = spread.vnodes; passes = vec_len c.args.keeping.tables + spread.vnodes + 1 } in
-    let opens = record { read = did.read; files = did.files; hooks = did.hooks; set = did.settings; next = did.next; above = did.above; minute = did.minute; put = did.put } in
+    let opens = record { read = did.read; files = did.files; hooks = did.hooks; set = did.settings; next = did.next; above = did.above; least = did.minute; put = did.put } in
     kept_over finds does c.args.keeping.minute tables c.args.folder.now c.open.new.folder c.finish.new.folder opened size spread.copies held.hooks.items held.files.items c.in-Ok-Kept.served c.finish.result
     opens refl spread.ok.some spread.ok.many c.among-spread.ensures.copies (ap (λ v. v.items) c.in-Ok-held.ensures.hooks) c.in-Ok-held.ensures.placed c.in-Ok-Kept.ensures.kept c.in-Ok-Kept.ensures.served c.finish.ensures.says c.finish.ensures.put
 

@@ -26,7 +26,7 @@ pub map_vec-back-requires-sync-F : goal.map_vec-back-requires-sync-F
 map_vec-back-requires-sync-F g c κs within =
     let cluster = cluster_sync (param 0 g.row.B) g.B.Room c.type_bounds.send-B c.type_bounds.sync-B in
     let shared = shared_sync (param 0 g.row.B) g.B.Room g.B.Spot c.type_bounds.send-B in
-    record { shared = (captures_sync [] _ _ _ _ _ (shr_sync erased [] _ heap.the_sync) (shr_sync erased _ _ cluster) (shr_sync erased _ _ lobby_sync) (shr_sync erased _ _ shared) (shr_sync erased _ _ c.type_bounds.sync-R)).shared }
+    record { shared = (captures_sync [] _ _ _ _ _ (shr_sync erased _ _ c.type_bounds.sync-R) (shr_sync erased [] _ heap.the_sync) (shr_sync erased _ _ cluster) (shr_sync erased _ _ lobby_sync) (shr_sync erased _ _ shared)).shared }
 
 pub map_vec-back-requires-send-J : goal.map_vec-back-requires-send-J
 map_vec-back-requires-send-J g c κs within =
