@@ -1,4 +1,4 @@
-use Rattle.std.proofs.Common.{◌≡◌, ◌∙◌, List, ap, length, map, subst, sym}
+use Rattle.std.proofs.Common.{◌∙◌, List, ap, length, map, subst, sym}
 use Rattle.cluster_stamps.specs.declared.view.View.{View}
 use Rattle.kept_restore.specs.Beginnings.{HaveLoaded}
 use Rattle.dvvstore.proofs.Sides.{came_back}

@@ -1,4 +1,4 @@
-use Rattle.std.proofs.Common.{◌≡◌, ◌+◌, Ok, Result, rules, take}
+use Rattle.std.proofs.Common.{◌≡◌, ◌+◌, Ok, rules, take}
 use Rattle.dvvstore.proofs.Sides.{counted_more, take_more}
 use Rattle.dvvstore.proofs.saver.all_keys.Goals as goal
 

@@ -1,10 +1,9 @@
-use Rattle.std.proofs.Common.{◌≡◌, ◌++◌, ◌∙◌, List, ap, flat_map, subst, sym}
+use Rattle.std.proofs.Common.{List, subst}
 use Rattle.audit_cluster.specs.Following.{IsFollowedTo}
 use Rattle.cluster_stamps.specs.declared.view.Told.{Told}
-use Rattle.cluster_stamps.specs.declared.view.View.{View}
 use Rattle.cluster_vnode.specs.Gathers.{IsGathered}
 use Rattle.dvvstore.specs.Asides.{WithAsides}
-use Rattle.dvvstore.proofs.Among.{told_before, with_asides}
+use Rattle.dvvstore.proofs.Among.{with_asides}
 use Rattle.dvvstore.proofs.VisitLemmas.{answers_after, answers_of, told_after}
 use Rattle.dvvstore.proofs.crew.running.serve.Goals as goal
 

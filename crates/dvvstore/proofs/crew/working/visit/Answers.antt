@@ -1,4 +1,4 @@
-use Rattle.std.proofs.Common.{◌≡◌, ◌∙◌, [], ap, refl}
+use Rattle.std.proofs.Common.{◌≡◌, ◌∙◌, [], ap}
 use Rattle.server_store.specs.View.{shown}
 use Rattle.cluster_peers.specs.Peering.{PassStep, Reach}
 use Rattle.dvvstore.proofs.VisitLemmas.{begun_as, visited_by}

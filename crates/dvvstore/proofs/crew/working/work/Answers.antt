@@ -1,4 +1,3 @@
-use Rattle.std.proofs.Common.{refl}
 use Rattle.dvvstore.specs.Visits.{begun}
 use Rattle.dvvstore.proofs.VisitLemmas.{not_visited}
 use Rattle.dvvstore.proofs.crew.working.work.Goals as goal
