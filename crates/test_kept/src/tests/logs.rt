@@ -82,6 +82,14 @@ fn is_log(file: &KeptFile, number: u64, names: &[&[u8]]) -> bool {
             && record.state.siblings().len() == 1)
 }
 
+/// Whether the first of some files is the log with a number, with the records of these keys.
+fn begin_with_log(files: &[KeptFile], number: u64, names: &[&[u8]]) -> bool {
+    match files.first() {
+        Some(file) => is_log(file, number, names),
+        None => false,
+    }
+}
+
 /// However many bytes are left of a log of three records, those that are left whole are found, and the bytes behind them are told.
 #[test]
 fn torn_at_each_byte(rt: HostRuntime) -> Result<(), Fail> {
@@ -108,7 +116,7 @@ fn torn_at_each_byte(rt: HostRuntime) -> Result<(), Fail> {
             torn: len - taken,
         });
         expect(held.logs == logs && held.files.len() == 1, &len)?;
-        expect(is_log(&held.files[0], 4, &names[..count]), &len)?;
+        expect(begin_with_log(&held.files, 4, &names[..count]), &len)?;
     }
     Ok(())
 }
@@ -128,12 +136,12 @@ fn what_is_no_record_is_passed_over(rt: HostRuntime) -> Result<(), Fail> {
         let mut bytes = log_of(alloc, &[b"one", b"two"])?;
         bytes.extend_from_slice(behind)?;
         bytes.extend_from_slice(&record_of(alloc, b"three")?)?;
-        let torn = bytes.len() - log_of(alloc, &[b"one", b"two"])?.len();
+        let torn = behind.len() + record_of(alloc, b"three")?.len();
         let mut folder = folder_with(&rt, alloc, &[("log-0", &bytes)])?;
         let held = open(alloc, &rt, &mut folder, MINUTE)?.held;
         let is_told = matches!(&held.logs, Some(logs) if logs.torn == torn);
         expect(
-            is_told && is_log(&held.files[0], 0, &[b"one", b"two"]),
+            is_told && begin_with_log(&held.files, 0, &[b"one", b"two"]),
             &behind,
         )?;
     }
@@ -211,7 +219,10 @@ fn other_names_are_no_logs(rt: HostRuntime) -> Result<(), Fail> {
     }
     let mut folder = folder_with(&rt, alloc, &[("log-18446744073709551615", &bytes)])?;
     let held = open(alloc, &rt, &mut folder, MINUTE)?.held;
-    expect(is_log(&held.files[0], u64::MAX, &[b"one"]), &"the greatest")
+    expect(
+        begin_with_log(&held.files, u64::MAX, &[b"one"]),
+        &"the greatest",
+    )
 }
 
 /// All records of logs stand at each vnode of their key, and signs at none. The number of a start is above that of whoever wrote them.
@@ -249,16 +260,19 @@ fn records_of_logs_are_placed(rt: HostRuntime) -> Result<(), Fail> {
     Ok(())
 }
 
+/// The identifier of the first vnode of start 300.
+const FIRST: u32 = 300 * 256;
+
 /// Vnodes of one start, each with a key of its own.
-fn vnodes_of(alloc: Global, count: u32) -> Result<Vec<Vnode>, Fail> {
+fn vnodes_of(alloc: Global, count: u8) -> Result<Vec<Vnode>, Fail> {
     let mut vnodes = Vec::new(alloc);
     for index in 0..count {
-        let id = 300 * 256 + index;
+        let id = FIRST.saturating_add(u32::from(index));
         let mut state = KeyState::new(alloc);
         let nothing = KeyState::new(alloc);
         state.put(id, nothing.clock(), Content::Tombstone)?;
         let mut vnode = Vnode::new(alloc, id);
-        let _ = vnode.merge_lent(1, &Key::new(alloc, b"b", &[index as u8])?, id, 0, &state);
+        let _ = vnode.merge_lent(1, &Key::new(alloc, b"b", &[index])?, id, 0, &state);
         vnodes.push(vnode)?;
     }
     Ok(vnodes)
@@ -268,14 +282,14 @@ fn vnodes_of(alloc: Global, count: u32) -> Result<Vec<Vnode>, Fail> {
 #[test]
 fn files_of_vnodes(rt: HostRuntime) -> Result<(), Fail> {
     let alloc = rt.alloc();
-    for count in 1..17u32 {
+    for count in 1..17u8 {
         let mut folder = folder_with(&rt, alloc, &[])?;
         keep_all(alloc, &mut folder, &vnodes_of(alloc, count)?, Some(b""))?;
         let held = open(alloc, &rt, &mut folder, MINUTE)?.held;
-        expect(held.vnodes() == Some(count), &count)?;
-        expect(held.files.len() == count as usize, &count)?;
-        for (index, file) in held.files.iter().enumerate() {
-            let own = Source::Vnode(300 * 256 + index as u32);
+        expect(held.vnodes() == Some(u32::from(count)), &count)?;
+        expect(held.files.len() == usize::from(count), &count)?;
+        for (index, file) in (0..u32::from(count)).zip(held.files.iter()) {
+            let own = Source::Vnode(FIRST.saturating_add(index));
             expect(file.from == own && file.records.len() == 1, &(count, index))?;
         }
     }
