@@ -35,5 +35,7 @@ etag_grouped o t =
 pub list_grouped : (t : List ℕ) → (codes "ETag: \"" ++ t) ++ (34 ∷ 13 ∷ 10 ∷ []) ≡ field_line (codes "ETag") (Some (quoted t))
 list_grouped t = etag_grouped [] t
 
-pub parts_grouped : (t : List ℕ) → (codes "ETag: \"" ++ t) ++ codes "-parts" ++ (34 ∷ 13 ∷ 10 ∷ []) ≡ field_line (codes "ETag") (Some (quoted (t ++ codes "-parts")))
-parts_grouped t = ap (λ l. l ++ (34 ∷ 13 ∷ 10 ∷ [])) (append_assoc (codes "ETag: \"") t (codes "-parts")) ∙ etag_grouped [] (t ++ codes "-parts")
+pub parts_grouped : (t : List ℕ) → (codes "ETag: \"" ++ t) ++ (codes "-parts" ++ (34 ∷ 13 ∷ 10 ∷ [])) ≡ field_line (codes "ETag") (Some (quoted (t ++ codes "-parts")))
+parts_grouped t =
+    sym (append_assoc (codes "ETag: \"" ++ t) (codes "-parts") (34 ∷ 13 ∷ 10 ∷ []))
+    ∙ (ap (λ l. l ++ (34 ∷ 13 ∷ 10 ∷ [])) (append_assoc (codes "ETag: \"") t (codes "-parts")) ∙ etag_grouped [] (t ++ codes "-parts"))

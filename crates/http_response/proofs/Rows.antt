@@ -1,5 +1,5 @@
 -- The worked answers, computed by the definitions.
-use Rattle.std.proofs.Common.{◌≡◌, List, [], ◌∷◌, ◌++◌, Some, None, Ok, Err, refl, true, false, length}
+use Rattle.std.proofs.Common.{◌≡◌, List, [], ◌∷◌, ◌++◌, Some, None, Ok, Err, refl, ap, append_assoc, true, false, length}
 use Rattle.std.specs.Prelude.{codes}
 use Rattle.std.specs.Fmt.{digits}
 use Rattle.percent_encoding.specs.Percent.{percent_encode_byte}
@@ -115,7 +115,7 @@ entity_tags :
     × (shown_etag Parts clock two ≡ Some (codes "\"" ++ token clock ++ codes "-parts\""))
     × (shown_etag (One (codes "1-1")) clock third ≡ Some (codes "\"1-1\"")) × (shown_etag (One (codes "0-2")) clock third ≡ None)
 unfolding digits two third
-entity_tags = (refl, refl, refl, refl)
+entity_tags = (refl, ap (λ l. Some (34 ∷ l)) (append_assoc (token clock) (codes "-parts") (34 ∷ [])), refl, refl)
 
 options : answer 3 (whole (Options route.Hook)) Nothing false
     ≡ line (codes "HTTP/1.1 204 No Content") ++ line (codes "Allow: PUT, DELETE, OPTIONS") ++ own_fields ++ line []
