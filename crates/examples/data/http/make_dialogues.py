@@ -128,7 +128,7 @@ def seen(clock, version=2):
 # Answers
 
 
-def answer(status, media=None, clock=None, dot=None, closes=False, body=None, allow=None):
+def answer(status, media=None, clock=None, dot=None, closes=False, body=None, allow=None, etag=None, shows_key=False):
     """An answer: its fields in their order, each where it applies. An empty clock is not told."""
     lines = [f"HTTP/1.1 {status} {PHRASES[status]}"]
     if media is not None:
@@ -144,6 +144,10 @@ def answer(status, media=None, clock=None, dot=None, closes=False, body=None, al
     if allow is not None:
         lines.append(f"Allow: {allow}")
     lines += ["X-Content-Type-Options: nosniff", "Server: dvvstore"]
+    if etag is not None:
+        lines.append(f'ETag: "{etag}"')
+    if shows_key:
+        lines.append("Vary: Accept")
     return "\r\n".join([*lines, "", ""]).encode() + as_bytes(body or "")
 
 
@@ -187,17 +191,20 @@ def no_method(route):
     return 405, "method", METHODS[route]
 
 
-def value(clock, text, media=TEXT):
-    return answer(200, media, clock, body=text)
+def value(clock, text, media=TEXT, dot=None):
+    """One value, of the write of a dot: of the vnode's that wrote most, unless it is told."""
+    dot = dot or max(clock.items(), key=lambda entry: entry[1])
+    return answer(200, media, clock, body=text, etag=tag(dot), shows_key=True)
 
 
 def not_found(clock=None):
-    return answer(404, TEXT, clock, body="not found\n")
+    return answer(404, TEXT, clock, body="not found\n", shows_key=True)
 
 
 def choices(clock, *dots):
     """Several siblings: their tags, in order."""
-    return answer(300, TEXT, clock, body="".join(f"{line}\n" for line in ["Siblings:", *map(tag, sorted(dots))]))
+    lines = ["Siblings:", *map(tag, sorted(dots))]
+    return answer(300, TEXT, clock, body="".join(f"{line}\n" for line in lines), etag=context(clock), shows_key=True)
 
 
 def parts(clock, siblings):
@@ -208,7 +215,8 @@ def parts(clock, siblings):
     for dot, text in sorted(siblings.items()):
         kind = "X-Riak-Deleted: true" if text is None else f"Content-Type: {TEXT}"
         body += f"\r\n--s{number}\r\n{kind}\r\nX-Riak-Tag: {tag(dot)}\r\n\r\n{text or ''}"
-    return answer(300, f"multipart/mixed; boundary=s{number}", clock, body=f"{body}\r\n--s{number}--\r\n")
+    media = f"multipart/mixed; boundary=s{number}"
+    return answer(300, media, clock, body=f"{body}\r\n--s{number}--\r\n", etag=f"{context(clock)}-parts", shows_key=True)
 
 
 def properties(bucket, precommit, resolver):
@@ -247,7 +255,7 @@ def cart():
         yield request(f"GET {ann.target}", f"Accept: {accepted}"), choices(both, (one, 3), (two, 1))
     for accepted in "multipart/mixed;q=0.001", "multipart/mixed;q=0, multipart/mixed", "multipart/mixed;q=00", "multipart/mixed;qq=0":
         yield request(f"GET {ann.target}", f"Accept: {accepted}"), parts(both, siblings)
-    yield request(f"GET {ann.target}?vtag={tag((two, 1))}"), value(both, "milk, rye --s0")
+    yield request(f"GET {ann.target}?vtag={tag((two, 1))}"), value(both, "milk, rye --s0", dot=(two, 1))
     yield request(f"GET {ann.target}?vtag={tag((one, 2))}"), not_found(both)
 
     # What has seen both takes their place, and so does the delete of that.
@@ -825,7 +833,7 @@ def methods():
     both = {one: 1, two: 1}
     yield by_head(key.target), head_of(choices(both, (one, 1), (two, 1)))
     yield by_head(key.target, "Accept: multipart/mixed"), head_of(parts(both, {(one, 1): "a", (two, 1): "b"}))
-    yield by_head(f"{key.target}?vtag={tag((two, 1))}"), head_of(value(both, "b"))
+    yield by_head(f"{key.target}?vtag={tag((two, 1))}"), head_of(value(both, "b", dot=(two, 1)))
     yield by_head("/buckets/b/props"), head_of(properties("b", None, None))
     # A body that comes with HEAD is passed over.
     yield request("HEAD /ping", body="GET /ping HTTP/1.1\r\n\r\n"), head_of(pong())
@@ -852,7 +860,7 @@ def methods():
     yield request("OPTIONS /none"), told(*NO_ROUTE)
     # The same routes with Riak's type `default`, and its old route of a key. No other type is there.
     typed_key, old_key = f"/types/default{key.target}", "/riak/b/k"
-    yield request(f"GET {typed_key}?vtag={tag((one, 1))}"), value(both, "a")
+    yield request(f"GET {typed_key}?vtag={tag((one, 1))}"), value(both, "a", dot=(one, 1))
     yield request(f"POST {old_key}", typed(TEXT), seen(both), body="c"), written(one, 2)
     yield by_head(old_key), head_of(value({one: 2, two: 1}, "c"))
     yield request(f"PUT {typed_key}", typed(TEXT), seen({one: 2, two: 1}), body="d"), written(one, 3)
@@ -1160,14 +1168,14 @@ def reads():
     both = {one: 1, two: 1}
     yield request(f"GET {key.target}"), choices(both, (one, 1), (two, 1))
     yield request(f"GET {key.target}", as_parts), parts(both, {(one, 1): "a", (two, 1): "b"})
-    yield request(f"{by_tag}{two}-1"), value(both, "b")
+    yield request(f"{by_tag}{two}-1"), value(both, "b", dot=(two, 1))
     yield request(f"{by_tag}{two}-10"), not_found(both)
 
     # Names of fields and words in any case; of a field or a word of a query that stands twice the first counts.
     shown = parts(both, {(one, 1): "a", (two, 1): "b"})
     yield request(f"GET {key.target}", "accept: text/plain, Multipart/Mixed ;q=1"), shown
     yield request(f"GET {key.target}", "Accept: multipart/mixed2,multipart", as_parts), choices(both, (one, 1), (two, 1))
-    yield request(f"{by_tag}{one}-1&vtag={two}-1", as_parts), value(both, "a")
+    yield request(f"{by_tag}{one}-1&vtag={two}-1", as_parts), value(both, "a", dot=(one, 1))
     yield from spelled()
 
     # A delete that has seen the first.
