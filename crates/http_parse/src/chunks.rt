@@ -69,15 +69,6 @@ impl CodedBody {
         }
     }
 
-    /// Forgets what was read.
-    pub(crate) fn clear(&mut self)
-        ensures { (bytes : List ℕ) → HasRead self.new bytes }
-    {
-        self.decoder = ChunkedDecoder::new(MAX_CODED_BYTES);
-        self.read = 0;
-        self.joined.clear();
-    }
-
     /// Takes the data of the chunks so far. It takes no memory.
     pub(crate) fn take(&mut self, alloc: Global) -> Vec<u8>
         ensures { result.items ≡ self.old.joined.items }

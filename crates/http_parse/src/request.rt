@@ -68,7 +68,7 @@ pub fn first_request(
         HeadAt::Unfinished => Ok(Asking::Head),
         HeadAt::Bad => Ok(no_head(bytes.len())),
         HeadAt::Whole(spans) => {
-            known.body.clear();
+            known.body = CodedBody::new(alloc);
             request_with(alloc, tables, copies, known, bytes, spans)
         }
     }
