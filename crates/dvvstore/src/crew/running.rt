@@ -5,8 +5,9 @@ ghost use Rattle.audit_cluster.specs.Following.{IsFollowedTo, IsSaidOf};
 ghost use Rattle.dvvstore.specs.Asides.{AllRead, AreGathered, WithAsides};
 ghost use Rattle.dvvstore.specs.Visits.{AfterAnswers, AfterAnswersOf, HaveVisited, begun};
 
+use crate::crew::abreast::join_three;
 use crate::crew::signs::Signs;
-use crate::crew::working::{Lookout, Seat, Shared, work_attended};
+use crate::crew::working::{Floor, Lookout, Seat, Shared, attend, work_all};
 use crate::host::Host;
 use crate::saver::Saver;
 use audit_cluster::{Closed, Spot, Watch, close_watched};
@@ -18,7 +19,6 @@ use server_accept::Lobby;
 use server_receipts::laws::{answers_are_by_receipts, answers_are_of_the_run};
 use std::alloc::{AllocError, Global};
 use std::sync::Wait;
-use std::thread;
 use std::thread::Threads;
 
 /// Who serves a store: its workers, who follows them, and who makes snapshots beside them.
@@ -76,16 +76,19 @@ fn run<
     let (alloc, rt) = (host.alloc, host.rt);
     let shared = Shared::new(lookout);
     let (lent, both) = (cluster, &shared);
-    let (spares, back) = thread::join(
+    let (spares, _, back) = join_three(
         rt,
         || -> Vec<Pass<B>>
             requires { vec_len spares ≤ 16 }
             ensures { AllRead lent.entry.now.first spares.items result.items × (vec_len result ≡ vec_len spares) }
         { save_beside(rt, lent, &both.signs(lobby), saver, spares) },
+        ||
+            requires { lent.now.first ≡ B.first }
+        { attend(rt, &Floor::new(alloc, lent, lobby, both)) },
         || -> Result<Vec<Pass<B>>, AllocError>
             requires { lent.now.first ≡ B.first }
             ensures { IfOk result (λ passes. (vec_len passes ≡ vec_len seats) × HaveVisited H.finds H.names H.takes (map (λ s. begun lent.entry.now s.pass s.hooking.hooks s.hooking.table.listed s.placement) seats.items) passes.items) }
-        { work_attended(&Host { alloc, rt }, lent, seats, lobby, both) },
+        { work_all(&Host { alloc, rt }, lent, seats, lobby, both) },
     );
     let Shared {
         watch,
