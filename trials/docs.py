@@ -30,7 +30,7 @@ DOCUMENTS: dict[str, tuple[str, ...]] = {"README.md": (), "docs/HTTP.md": (), "d
 TESTING = "docs/TESTING.md"
 # The page whose lines are run by trials of their own, and the shortest text by which one is picked out.
 OPERATIONS = "docs/OPERATIONS.md"
-RUN_ITS_LINES = ("service", "systemd", "container", "proxies")
+RUN_ITS_LINES = ("service", "backups", "systemd", "container", "proxies")
 LEAST_WORD = 6
 CHANGES = "CHANGELOG.md"
 END_SECONDS = 60
