@@ -3,7 +3,8 @@
 Three clients write, delete and bind a hook as in kills.py, and snapshots are made one after another, so most copies begin in the midst
 of one. A copy is made by the line of docs/OPERATIONS.md, or slowly, file by file in any order, with what is half written too; in one
 more the server is stopped and started between two files. Each has to start. Each key has to be as it was at some moment between the
-beginning of the last snapshot that was whole when the copy was begun, and its end; keys that were written before have to be there.
+beginning of the last snapshot that was whole when the copy was begun, and its end. Keys that were written before, and a hook that was
+bound, have to be there.
 
 A copy is started by a clock that is ahead of the store's, as one that is put back later, or with a number that the page's line raises.
 No two starts may have one number. A context of before that snapshot has to be taken by the copy. One of a write behind the copy has to
@@ -56,7 +57,9 @@ CUTS = 4
 WRITTEN_TOGETHER = 64
 LOOKED_AT = 100
 PIECE_BYTES = 65_536
+LOOK_SECONDS = 0.001
 MOST_REST_SECONDS = 0.05
+IN_THE_MIDST = 0.8
 MOST_PIECE_SECONDS = 0.002
 SNAPSHOT_SECONDS = 120
 OWNERS_FOLDER, OWNERS_FILE = 0o700, 0o600
@@ -71,14 +74,14 @@ class Snapshooter(threading.Thread):
         super().__init__()
         self.server, self.chance = server, chance
         self.last_whole, self.is_asked, self.is_over = 0.0, False, False
-        self.count, self.faults = 0, []
+        self.last_seconds, self.faults = 0.0, []
 
     def run(self) -> None:
         while not self.is_over:
             begun, self.is_asked = time.monotonic(), True
             line = self.server.snapshot(SNAPSHOT_SECONDS)
             if kept.is_whole_snapshot(line):
-                self.last_whole, self.count = begun, self.count + 1
+                self.last_whole, self.last_seconds = begun, time.monotonic() - begun
             else:
                 self.faults.append(f"a snapshot: {line}")
                 self.is_over = True
@@ -88,7 +91,13 @@ class Snapshooter(threading.Thread):
     def wait_for_one_behind(self, moment: float) -> None:
         """Waits until one is whole that was asked for behind a moment."""
         while self.last_whole <= moment and not self.is_over:
-            time.sleep(0.002)
+            time.sleep(LOOK_SECONDS)
+
+    def wait_into_the_midst_of_one(self) -> None:
+        """Waits until the next has been made for a while."""
+        while not self.is_asked and not self.is_over:
+            time.sleep(LOOK_SECONDS)
+        time.sleep(self.chance.uniform(0, self.last_seconds))
 
 
 @dataclass(frozen=True)
@@ -217,6 +226,8 @@ class Life:
             with self.start() as server, server.client() as client:
                 if number == 0:
                     put_fillers(client, self.size.keys)
+                    client.must(204, "PUT", "/hooks/never", kept.REJECTS)
+                    client.must(204, "PUT", "/buckets/never/props", b'{"props":{"precommit":"never"}}')
                 self.note_number(f"start {number}", given(client, f"start-{number}").number)
                 self.try_refused_at_the_store(client, f"start {number}")
                 with self.written(server) as (writers, snapshooter):
@@ -255,7 +266,8 @@ class Life:
     def taken(self, client: Client, writers: Sequence[kills.Writer], snapshooter: Snapshooter, way: Callable[[Path], None]) -> Copy:
         before = given(client, f"before-{self.copies}")
         snapshooter.wait_for_one_behind(time.monotonic())
-        time.sleep(self.chance.uniform(0, MOST_REST_SECONDS))
+        if self.chance.random() < IN_THE_MIDST:
+            snapshooter.wait_into_the_midst_of_one()
         begun, is_in_midst, folder = snapshooter.last_whole, snapshooter.is_asked, self.room / f"copy-{self.copies}"
         way(folder)
         ended = time.monotonic()
@@ -299,6 +311,7 @@ class Life:
         looked_at = [filler(self.chance.randrange(self.size.keys)) for _ in range(LOOKED_AT)]
         with server.client() as client:
             shown = client.ask_together([request("GET", key) for key, _ in looked_at])
+            self.found.hold(client.ask("PUT", "/buckets/never/keys/k", b"x").status == 403, f"{what}: the hook of before is bound")
         lost = [key for (key, value), answer in zip(looked_at, shown) if (answer.status, answer.body) != (200, value)]
         self.found.hold(not lost, f"{what}: {len(lost)} of {LOOKED_AT} keys are lost: {lost[:3]}")
 
@@ -321,10 +334,10 @@ class Life:
 
     def try_contexts_of_now(self, client: Client, store: Client, what: str) -> None:
         """Hands in contexts of keys that are written all the time: what they count that the copy lacks decides."""
-        for key in self.known[0]:
+        for key in sorted(self.known[0].keys() - {kills.BOUND}):
             path = f"/buckets/b/keys/{key}"
             context, known = store.ask("GET", path).context, client.ask("GET", path).context
-            if key == kills.BOUND or context is None:
+            if context is None:
                 continue
             wanted = 204 if is_covered(context, known) else 412
             answer = client.ask("PUT", path, b"now", context)
@@ -407,6 +420,7 @@ def run(program: Path, seed: int, size: Size) -> Result:
     ]
     known[0][kills.BOUND] = [False]
     with kept.folders(settings=kept.NO_SNAPSHOTS_BY_ITSELF) as folder:
+        (folder / kept.SETTINGS).chmod(OWNERS_FILE)
         life = Life(found, program, folder, chance, size, str(library("later.c", folder.parent / "later.so")), known)
         life.try_lives()
         life.try_across_starts()

@@ -163,7 +163,7 @@ def boot(room: Path, top: str) -> str:
     service = room / "trial.service"
     service.write_text(RUNS_THE_SCRIPT.format(top=top), encoding="utf-8")
     words = [tool("systemd-nspawn"), "--directory=/", "--volatile=yes", "--register=no", "--keep-unit", "--private-network", "--quiet"]
-    words += [f"--machine={room.name}", f"--bind={room}:/trial", f"--bind-ro={service}:/etc/systemd/system/trial.service"]
+    words += [f"--machine={room.name.replace('_', 'u')}", f"--bind={room}:/trial", f"--bind-ro={service}:/etc/systemd/system/trial.service"]
     for name in proxies():
         shutil.copytree(Path("/etc", name), room / name, symlinks=True)
         words += [f"--bind={room / name}:/etc/{name}"]
