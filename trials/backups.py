@@ -1,8 +1,8 @@
 """Copies the folder of a kept store while it is written and kept, starts each copy beside it, and one in its place.
 
 Three clients write, delete and bind a hook as in kills.py, and snapshots are made one after another, so most copies begin in the midst
-of one. A copy is made by the line of docs/OPERATIONS.md, or slowly, file by file in any order, with what is half written too; in one
-more the server is stopped and started between two files. Each has to start. Each key has to be as it was at some moment between the
+of one. A copy is made by the line of docs/OPERATIONS.md, by `cp -a`, or slowly, file by file in any order, with what is half written
+too; in one more the server is stopped and started between two files. Each has to start. Each key has to be as it was at some moment between the
 beginning of the last snapshot that was whole when the copy was begun, and its end. Keys that were written before, and a hook that was
 bound, have to be there.
 
@@ -20,6 +20,7 @@ import os
 import random
 import shutil
 import stat
+import subprocess
 import threading
 import time
 from collections.abc import Callable, Mapping, Sequence
@@ -29,7 +30,7 @@ from pathlib import Path
 import kept
 import kills
 from server import VNODES_PER_NUMBER, Client, Server, entries_of, request, vnode_of
-from trial import TOP, Findings, Result, library, line_of_page, run_line
+from trial import TOP, Findings, Result, library, line_of_page, run_line, tool
 
 NAME = "backups"
 PROMISES = "A copy of a folder taken at any moment starts, has what was kept, and gives no number again."
@@ -45,13 +46,13 @@ class Size:
     keys: int
 
 
-FULL, SHORT = Size(starts=6, copies=8, keys=20_000), Size(starts=2, copies=3, keys=1_000)
+FULL, SHORT = Size(starts=5, copies=6, keys=20_000), Size(starts=2, copies=3, keys=1_000)
 
 PAGE = TOP / "docs" / "OPERATIONS.md"
 MAKES_A_COPY, PUTS_IT_BACK, LOOKS_AT_IT, RAISES_THE_NUMBER = "-cf copy.tar", "-xf copy.tar", "echo stop |", "number $N"
 SUMS_IT, COMPARES_THE_SUM = "> copy.tar.sha256", "sha256sum -c"
 TAKEN = (0, 1)  # 1 where a file was replaced while it was read
-ARCHIVE = "copy.tar"
+ARCHIVE, HALF_WRITTEN = "copy.tar", ".part"
 CUTS = 4
 
 WRITTEN_TOGETHER = 64
@@ -256,7 +257,7 @@ class Life:
 
     def try_one(self, server: Server, client: Client, writers: Sequence[kills.Writer], snapshooter: Snapshooter) -> None:
         """Makes a copy and tries it, while the store goes on."""
-        way = self.by_the_page if self.copies % 2 == 0 else self.slowly
+        way = (self.by_the_page, self.slowly, self.by_cp)[self.copies % 3]
         self.copies += 1
         copy = self.taken(client, writers, snapshooter, way)
         self.in_midst += copy.is_in_midst
@@ -286,6 +287,12 @@ class Life:
 
     def slowly(self, folder: Path) -> None:
         copy_slowly(self.folder, folder, self.chance)
+
+    def by_cp(self, folder: Path) -> None:
+        ran = subprocess.run([tool("cp"), "-a", self.folder, folder], capture_output=True, text=True)
+        # What is gone before it is opened was half written.
+        are_half_written = all(f"{HALF_WRITTEN}'" in line for line in ran.stderr.splitlines())
+        self.found.hold(ran.returncode in TAKEN and are_half_written, f"cp: {ran}")
 
     def try_copy(self, copy: Copy, what: str, store: Client | None) -> None:
         """Starts a copy, and compares it with what it has to have. The store may go on beside it."""
