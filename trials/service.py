@@ -12,6 +12,8 @@ Copies are made by the line of docs/OPERATIONS.md, beside writers and snapshots:
 acknowledged before the last whole snapshot. One is put back by the lines of that page, with a number above those of these starts,
 which came quicker than one a minute: no tag may come twice, and a context of what the copy hasn't seen has to be refused.
 
+Each number to be watched has to be printed by its line of that page, and a folder that its line makes has to be its owner's alone.
+
 The unit has to pass `systemd-analyze verify`, where there is one.
 """
 from __future__ import annotations
@@ -22,6 +24,7 @@ import random
 import re
 import shutil
 import signal
+import stat
 import subprocess
 import threading
 import time
@@ -55,6 +58,17 @@ UNIT = TOP / "service" / "dvvstore.service"
 PAGE = TOP / "docs" / "OPERATIONS.md"
 MAKES_A_COPY, PUTS_IT_BACK, RAISES_THE_NUMBER = "-cf copy.tar", "-xf copy.tar", "number $N"
 TAKEN = (0, 1)  # where a file was replaced while it was read it is 1
+MAKES_A_FOLDER = "install -d -m"
+OWNERS_FOLDER, OWNERS_FILE = 0o700, 0o600
+# The lines that tell a number, each by a word of its own, and what they print. Those of systemd are tried by systemd.py.
+NUMBERS = {
+    "curl -sf": "OK",
+    "grep VmRSS": r"VmRSS:\s+\d+ kB\n",
+    "/fd | wc": r"\d+\n",
+    "-mmin -5": r"[1-9]\d*\n",
+    "df --output": r"\s*Avail Use%\n\s*\d+\s+\d+%\n",
+}
+STORES_PORT = "8098"
 INSTALLED = "/usr/local/bin/dvvstore-service"
 FILES = re.compile(rf"incarnation|lock|log-\d+|vnode-\d+\.records|hooks\.requests|{kept.SETTINGS}")
 
@@ -390,6 +404,41 @@ def try_put_back(life: Life) -> None:
         server.stop_in_order()
 
 
+# What else the page has
+
+
+def try_numbers(life: Life) -> None:
+    """The page's lines that tell a number."""
+    with life.served() as service:
+        with service.client() as client:
+            client.must(204, "PUT", "/buckets/b/keys/watched", b"x")
+        snapshot_by_signal(life, service)
+        for word, told in NUMBERS.items():
+            ran = run_line(line_of_page(PAGE, word), life.folder.parent, **{"FOLDER": life.folder, STORES_PORT: service.port})
+            life.found.hold(ran.returncode == 0 and re.fullmatch(told, ran.stdout), f"{word}: {ran}")
+        service.signal(signal.SIGTERM)
+        end = service.end(END_SECONDS)
+        life.found.hold(end is not None and end.is_in_order, f"beside numbers: {end}")
+
+
+def mode_of(path: Path) -> int:
+    return stat.S_IMODE(path.stat().st_mode)
+
+
+def try_modes(life: Life) -> None:
+    """Whose the folder is that the page's line makes, and the files that the service makes in it."""
+    folder = life.folder.parent / "own"
+    ran = page(MAKES_A_FOLDER, life.folder.parent, folder)
+    with Service(life.program, folder) as service:
+        with service.client() as client:
+            client.must(204, "PUT", "/buckets/b/keys/own", b"x")
+        snapshot_by_signal(life, service)
+        service.signal(signal.SIGTERM)
+        service.end(END_SECONDS)
+    modes = {path.name: oct(mode_of(path)) for path in folder.iterdir() if mode_of(path) != OWNERS_FILE}
+    life.found.hold(ran.returncode == 0 and mode_of(folder) == OWNERS_FOLDER and not modes, f"it is its owner's alone: {ran} {modes}")
+
+
 def try_unit(found: Findings, room: Path) -> bool:
     """Whether the unit could be tried."""
     verifier = shutil.which("systemd-analyze")
@@ -417,5 +466,7 @@ def run(program: Path, seed: int, size: Size) -> Result:
         try_hurried(life, size.hurried_starts)
         try_copies(life, size.copies)
         try_put_back(life)
+        try_numbers(life)
+        try_modes(life)
         unit = "the unit" if try_unit(found, folder.parent) else "no unit"
     return found.result(f"{ends} ends, {size.copies} copies, {len(life.acknowledged)} writes, {unit}")

@@ -4,7 +4,8 @@ systemd is the machine's own, run in a container of systemd-nspawn that has the 
 own. An archive is unpacked there, and the lines of the page's sections are run as they stand: the program is installed, its user made,
 its unit begun. A write has to be answered, `systemctl reload` to bring a snapshot, `systemctl stop` to end with `kept N`, `audit ok` and
 status 0, and a start behind it to have what was written. A program that is killed has to be started again, and what came before the
-snapshot to be there. The folder has to be its user's alone. Where the machine has nginx or stunnel they are put before it by the lines
+snapshot to be there. The page's lines have to tell of that start and of the last snapshot, and of nothing to be woken by. The folder has
+to be its user's alone. Where the machine has nginx or stunnel they are put before it by the lines
 of the page, and asked as the page asks them. What the unit forbids has to be forbidden, as the kernel says, and no call of the program's
 may be of it: the system ends a program that makes one.
 
@@ -144,6 +145,9 @@ def steps() -> list[Step]:
         *of_proxies(),
         Step("kill", "systemctl kill -s KILL dvvstore"),
         Step("restarted", f"wait_for {shlex.quote('systemctl show -p NRestarts dvvstore | grep -x NRestarts=1')}; {answers('l', 'bread')}"),
+        Step("restarts", page("NRestarts --value"), "^1$"),
+        Step("last", page("'^snapshot '"), r"^snapshot \d+ keys \d+ ms$"),
+        Step("woken", f"{{ {page('-o short-iso')}; }}; [ $? = 1 ]", "^$"),
         Step("folder", "stat -c '%U %a' /var/lib/dvvstore; stat -c '%U %a' /var/lib/dvvstore/* | sort -u", "dvvstore 700\ndvvstore 600\n$"),
         Step("security", "systemd-analyze security --no-pager dvvstore | tail -n 1"),
     ]
@@ -159,7 +163,7 @@ def boot(room: Path, top: str) -> str:
     service = room / "trial.service"
     service.write_text(RUNS_THE_SCRIPT.format(top=top), encoding="utf-8")
     words = [tool("systemd-nspawn"), "--directory=/", "--volatile=yes", "--register=no", "--keep-unit", "--private-network", "--quiet"]
-    words += [f"--machine={room.name}", f"--bind={room}:/trial", f"--bind-ro={service}:/etc/systemd/system/trial.service"]
+    words += [f"--machine={room.name.replace('_', 'u')}", f"--bind={room}:/trial", f"--bind-ro={service}:/etc/systemd/system/trial.service"]
     for name in proxies():
         shutil.copytree(Path("/etc", name), room / name, symlinks=True)
         words += [f"--bind={room / name}:/etc/{name}"]
