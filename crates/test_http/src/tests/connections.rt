@@ -179,11 +179,11 @@ fn calls_that_fail(alloc: Global, rows: &[Row], device: Device) -> Result<u64, F
 }
 
 /// Whichever read or write fails, that is told, and a front of the answers was written. 625 bytes that come seven at a time are 90 reads
-/// and one that finds the end; nine answers, each of which goes out before the next request has come, are 210 writes of at most seven
+/// and one that finds the end; nine answers, each of which goes out before the next request has come, are 243 writes of at most seven
 /// bytes.
 #[test]
 fn devices_that_fail(rt: HostRuntime) -> Result<(), Fail> {
     let reads = calls_that_fail(rt.alloc(), &HTTP_SIBLINGS, Device::Source)?;
     let writes = calls_that_fail(rt.alloc(), &HTTP_SIBLINGS, Device::Sink)?;
-    expect((reads, writes) == (91, 210), &(reads, writes))
+    expect((reads, writes) == (91, 243), &(reads, writes))
 }
