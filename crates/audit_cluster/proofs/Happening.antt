@@ -34,7 +34,7 @@ place_of [] k v lt is = absurd (omega arith)
 place_of (u ∷ us) zero v lt is = is
 place_of (u ∷ us) (suc k) v lt is = place_of us k v (omega arith) is
 
-behind_front : (front : List Entry) (e : Entry) (rest : List Entry) (n : ℕ) → length front ≡ n → slice_get (front ++ e ∷ rest) n ≡ Some e
+pub behind_front : (front : List Entry) (e : Entry) (rest : List Entry) (n : ℕ) → length front ≡ n → slice_get (front ++ e ∷ rest) n ≡ Some e
 behind_front [] e rest zero is = refl
 behind_front [] e rest (suc n) is = absurd (omega arith)
 behind_front (x ∷ front) e rest zero is = absurd (omega arith)
@@ -50,7 +50,7 @@ first_is : (a b : Entry) → a ∷ [] ≡ b ∷ [] → a ≡ b
 first_is a b is = ap (λ (l : List Entry). get_or l 0 a) is
 
 -- an entry has the stamp of its call
-stamp_is : (stamp : ℕ) (n : News) (e : Entry) → entries_made stamp n ≡ e ∷ [] → stamp_of e ≡ stamp
+pub stamp_is : (stamp : ℕ) (n : News) (e : Entry) → entries_made stamp n ≡ e ∷ [] → stamp_of e ≡ stamp
 stamp_is stamp (news.Call asked (Ok told)) e is = ap stamp_of (sym (first_is _ e is)) ∙ stamp_entry stamp asked told
 stamp_is stamp (news.Call asked (Err why)) e is = absurd cc
 stamp_is stamp (news.HandOut first entries) e is = absurd cc
@@ -88,7 +88,7 @@ module _ {begin : Knowledge} {fronts : List ℕ} {logs : List Log} (run : IsInte
       let entries : (log_at logs has.0).entries ≡ front ++ (e ∷ rest) = ap (λ (l : Log). l.entries) here ∙ parts ∙ ap (λ (es : List Entry). front ++ (es ++ rest)) made in
       let there : EntryIn logs has.0 t.at e = (has.1, ap (λ (es : List Entry). slice_get es t.at) entries ∙ behind_front front e rest t.at long) in
       let vnode : (log_at logs has.0).vnode ≡ t.vnode = ap (λ (l : Log). l.vnode) here ∙ id in
-      let found = steps has.0 t.at e there (behind has.0 has.1 vnode) in
+      let found = steps has.0 t.at e there (behind e made has.0 has.1 vnode) in
       let before : take t.at (log_at logs has.0).entries ≡ front = ap (λ (es : List Entry). take t.at es) entries ∙ ap (λ (k : ℕ). take k (front ++ (e ∷ rest))) (sym long) ∙ take-append_seam front (e ∷ rest) in (
         found.0,
         record {
