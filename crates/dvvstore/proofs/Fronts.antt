@@ -51,10 +51,10 @@ IsMaker vnode place t = (t.vnode ≡ vnode) × (t.at ≡ place) × ((entry : Ent
 merge_there : (id place : ℕ) (records : List Record) (marks : List Mark) → length marks ≡ length records → (k : ℕ) → k < length records → (t : Told) × Contains (merges_told id place records marks) t × IsMaker id (place + k) t
 merge_there id place [] marks len k lt = absurd (omega (arith, lt))
 merge_there id place (r ∷ records) [] len k lt = absurd (omega (arith, len))
-merge_there id place (r ∷ records) (m ∷ marks) len zero lt = (merge_told id place r m, (0, omega arith, refl), refl, omega arith, (_, refl))
+merge_there id place (r ∷ records) (m ∷ marks) len zero lt = (merge_told id place r m, (0, omega arith, refl), (refl, omega arith, (_, refl)))
 merge_there id place (r ∷ records) (m ∷ marks) len (suc k) lt =
-    let (t, has, vnode, at, made) = merge_there id (place + 1) records marks (omega (arith, len)) k (omega (arith, lt)) in
-    (t, (suc has.0, (let l = has.1 in omega (arith, l)), has.2), vnode, omega (arith, at), made)
+    let (t, has, is) = merge_there id (place + 1) records marks (omega (arith, len)) k (omega (arith, lt)) in
+    (t, (suc has.0, (let l = has.1 in omega (arith, l)), has.2), (is.0, (let at = is.1 in omega (arith, at)), is.2))
 
 at_as : (files : List KeptFile) (place m n : ℕ) → m ≡ n → place < length (records_at files m) → place < length (records_at files n)
 at_as files place m n is lt = subst (λ (k : ℕ). place < length (records_at files k)) is lt
@@ -66,13 +66,13 @@ loaded_there first index files olds [] loaded k lt place inside = absurd (omega 
 loaded_there first index files [] (new ∷ news) loaded k lt place inside = absurd loaded
 loaded_there first index files (old ∷ olds) (new ∷ news) ((marks, len, told), loaded) zero lt place inside =
     let here = at_as files place (index + 0) index (omega arith) inside in
-    let (t, has, vnode, at, made) = merge_there (first + index) 0 (records_at files index) marks len place here in
+    let (t, has, is) = merge_there (first + index) 0 (records_at files index) marks len place here in
     let among : Contains new.told t = subst (λ (ts : List Told). Contains ts t) (sym told) (Contains-append_right old.told (merges_told (first + index) 0 (records_at files index) marks) t has) in
-    (t, Contains-append_left new.told (flat_map (λ p. p.told) news) t among, omega (arith, vnode), omega (arith, at), made)
+    (t, Contains-append_left new.told (flat_map (λ p. p.told) news) t among, ((let vnode = is.0 in omega (arith, vnode)), (let at = is.1 in omega (arith, at)), is.2))
 loaded_there first index files (old ∷ olds) (new ∷ news) (one, loaded) (suc k) lt place inside =
     let there = at_as files place (index + suc k) ((index + 1) + k) (omega arith) inside in
-    let (t, has, vnode, at, made) = loaded_there first (index + 1) files olds news loaded k (omega (arith, lt)) place there in
-    (t, Contains-append_right new.told (flat_map (λ p. p.told) news) t has, omega (arith, vnode), at, made)
+    let (t, has, is) = loaded_there first (index + 1) files olds news loaded k (omega (arith, lt)) place there in
+    (t, Contains-append_right new.told (flat_map (λ p. p.told) news) t has, ((let vnode = is.0 in omega (arith, vnode)), is.1, is.2))
 
 long_as : (files : List KeptFile) (n : ℕ) → length (fronts_to files n) ≡ n
 long_as files zero = refl
@@ -109,8 +109,8 @@ in_front files (suc n) index place lt = elim (cases_order index n) [
 loaded_made : (first vnodes : ℕ) (files : List KeptFile) (fresh spares : List View) (logs : List Log) → HaveLoaded first 0 files fresh spares → length spares ≡ vnodes → AreNumbered first logs → AreBrought spares logs (fronts_to files vnodes)
 loaded_made first vnodes files fresh spares logs loaded many numbered = λ index place inside lt.
     let (under, there) = in_front files vnodes index place lt in
-    let (t, has, vnode, at, made) = loaded_there first 0 files fresh spares loaded index (omega (arith, under, many)) place there in
-    (t, has, vnode ∙ sym (numbered index inside), at, made)
+    let (t, has, is) = loaded_there first 0 files fresh spares loaded index (omega (arith, under, many)) place (at_as files place index (0 + index) (omega arith) there) in
+    (t, has, (let vnode = is.0 in let number = numbered index inside in omega (arith, vnode, number)), is.1, is.2)
 
 made_for : {F : Type 0} (folder : Option F) (first vnodes : ℕ) (files : List KeptFile) (fresh spares : List View) (logs : List Log) → HaveLoaded first 0 files fresh spares → length spares ≡ vnodes → AreNumbered first logs
     → AreBrought spares logs (fronts_for folder vnodes files)

@@ -54,8 +54,8 @@ pub come_behind : (told others : List Told) (logs : List Log) → IsGathered (to
     → (fronts : List ℕ) → AreMadeBy others fronts logs → (t : Told) → Contains told t → IsCallBehind fronts logs t
 come_behind told others logs (hs, vnodes, whole) apart stand fronts made t has e is index inside vnode = elim (cases_lt t.at (count_at fronts index)) [
   | inl before ↦
-      (let (u, there, number, place, f, did) = made index t.at inside before in
+      (let (u, there, number, place, one) = made index t.at inside before in
       absurd (apart_from told others t u (told_apart (told ++ others) hs whole t.stamp) has there
-      (one_stamp logs t u e f apart (stand t (Contains-append_left told others t has)) (stand u (Contains-append_right told others u there)) (sym vnode ∙ sym number) (sym place) is did)))
+      (one_stamp logs t u e one.0 apart (stand t (Contains-append_left told others t has)) (stand u (Contains-append_right told others u there)) (sym vnode ∙ sym number) (sym place) is one.1)))
   | inr behind ↦ behind
 ]
