@@ -1,24 +1,21 @@
 -- The calls of passes as steps of the run.
-use Rattle.std.proofs.Common.{◌≡◌, ◌↔◌, ◌⊎◌, inl, inr, ℕ, zero, suc, ◌+◌, ◌<◌, ◌≤◌, List, [], ◌∷◌, ◌++◌, length, get_or, take, refl, sym, ap, subst, ◌∙◌, arith, Some, Ok, Err}
+use Rattle.std.proofs.Common.{◌≡◌, ◌↔◌, ◌⊎◌, inl, inr, ℕ, zero, suc, ◌<◌, ◌≤◌, List, [], ◌∷◌, ◌++◌, length, get_or, take, refl, sym, ap, subst, ◌∙◌, arith, Some, Ok, Err}
 use Rattle.std.specs.Prelude.{slice_get, Contains}
 use Rattle.std.proofs.Math.Seq.{take-append_seam}
 use Rattle.dvv.specs.declared.Dot.{Dot}
 use Rattle.key_state.specs.declared.content.Content.{Content}
 use Rattle.key_state.specs.declared.content.Key.{Key}
-use Rattle.key_state.specs.Parts.{Summarized}
 use Rattle.key_state.specs.State.{State}
 use Rattle.journal.specs.Entry.{Entry, Put}
 use Rattle.journal.specs.Logs.{Log}
 use Rattle.journal.specs.Replay.{IsReplay}
 use Rattle.journal.specs.Stamps.{stamp_of}
 use Rattle.cluster_stamps.specs.Rule.{StampsRise}
-use Rattle.cluster_stamps.specs.declared.request.Reply.TheVariants as reply
-use Rattle.cluster_stamps.specs.declared.request.Request.TheVariants as request
 use Rattle.cluster_stamps.specs.declared.view.News.{News}
 use Rattle.cluster_stamps.specs.declared.view.News.TheVariants as news
 use Rattle.cluster_stamps.specs.declared.view.Told.{Told}
 use Rattle.cluster_vnode.specs.Answers.{IsSaid, entries_made, entry_of_call, log_of}
-use Rattle.cluster_vnode.specs.Gathers.{IsGathered, Stands}
+use Rattle.cluster_vnode.specs.Gathers.{Stands}
 use Rattle.cluster_vnode.proofs.Counts.{stamp_entry}
 use Rattle.world.specs.Knowledge.{Knowledge, IsStateOf, known_at, next_dot}
 use Rattle.world.specs.Represents.{log_at}

@@ -1,5 +1,5 @@
 -- Worked rows of calls in a run, and wrong ones that are refused.
-use Rattle.std.proofs.Common.{◌≡◌, ◌↔◌, ℕ, zero, suc, ◌+◌, ◌<◌, ◌≤◌, List, [], ◌∷◌, length, refl, sym, ap, ◌∙◌, arith, Some, None, Ok, Err, true}
+use Rattle.std.proofs.Common.{◌≡◌, ◌↔◌, ℕ, zero, suc, ◌<◌, ◌≤◌, List, [], ◌∷◌, refl, sym, ◌∙◌, arith, Some, None, Ok, Err, true}
 use Rattle.dvv.specs.declared.Dot.{Dot}
 use Rattle.key_state.specs.declared.content.Content.{Content}
 use Rattle.key_state.specs.declared.content.Key.{Key}
@@ -8,7 +8,6 @@ use Rattle.key_state.specs.State.{State, content_at}
 use Rattle.vnode.specs.declared.fault.PartFault.{PartFault}
 use Rattle.journal.specs.Logs.{Log}
 use Rattle.cluster_stamps.specs.Rule.{StampsRise, call_of}
-use Rattle.cluster_stamps.specs.declared.request.Reply.{Reply}
 use Rattle.cluster_stamps.specs.declared.request.Reply.TheVariants as reply
 use Rattle.cluster_stamps.specs.declared.request.Request.{Request}
 use Rattle.cluster_stamps.specs.declared.request.Request.TheVariants as request
