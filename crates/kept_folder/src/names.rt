@@ -17,6 +17,9 @@ pub(crate) const SNAPSHOT_WORD: &str = "snapshot ";
 /// What a line begins with that has the number of copies.
 pub(crate) const COPIES_WORD: &str = "copies ";
 
+/// What a line begins with that says when the log is forced.
+pub(crate) const SYNC_WORD: &str = "sync ";
+
 /// The requests that install and bind hooks.
 pub const HOOKS: &str = "hooks.requests";
 

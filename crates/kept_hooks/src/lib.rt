@@ -21,3 +21,6 @@ pub use recorder::Recorder;
 pub use refused::RefusedHook;
 pub use replaying::ReplayFault;
 pub use writes::Writes;
+
+#[test]
+fn nothing(rt: HostRuntime) {}

@@ -23,7 +23,8 @@ use server_store::NotingBackend;
 use std::sync::{Mutex, Wait};
 
 /// A store that writes down what changed its hooks, in a list that it shares with other stores of the same hooks, and notes once a call is
-/// done that may have written something: a key, by a resolver too, or which hooks there are, or are bound.
+/// done that may have written something: a key, by a resolver too, or which hooks there are, or are bound. Before it is done it notes the
+/// key, so that its state can be read behind it and be kept before the call is answered.
 ///
 /// The list stays locked while the change is made, so that it has the changes in their order. A change that was refused for want of memory
 /// may stand all the same: that is written down, too. Who takes the note of a write and reads the store then has what was written, or finds
@@ -67,7 +68,9 @@ impl<K: Backend + Drop, R: Wait, L: ChangeList + Drop, N: Notes> Backend
         requires { Fits (K.copies self.old.store) (call.Get key.now r at) }
         ensures given { K.gives self.old.store (call.Get key.now r at) (reply.Got result) self.new.store }
         ensures noted { N.read_noted }
+        ensures asked { N.asked_noted key.now }
     {
+        self.notes.note_asked(key);
         let got = self.store.get(key, r, at);
         self.notes.note_read();
         got
@@ -84,7 +87,9 @@ impl<K: Backend + Drop, R: Wait, L: ChangeList + Drop, N: Notes> Backend
         requires { Fits (K.copies self.old.store) (call.Put key.now seen.now content.now w at) }
         ensures given { K.gives self.old.store (call.Put key.now seen.now content.now w at) (reply.Stored result) self.new.store }
         ensures noted { N.write_noted }
+        ensures key { N.key_noted key.now }
     {
+        self.notes.note_key(key);
         let done = self.store.put(key, seen, content, w, at);
         self.notes.note();
         done
