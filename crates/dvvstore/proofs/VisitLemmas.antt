@@ -19,6 +19,8 @@ use Rattle.http_connections.specs.declared.seat.Seat.{Seat}
 use Rattle.http_connections.proofs.LogLemmas.{all_parts-both}
 use Rattle.http_connections.proofs.TalkLemmas.{Runs-append}
 use Rattle.journal.specs.Logs.{Log as JournalLog}
+use Rattle.audit_cluster.specs.Moments.{HappenFrom}
+use Rattle.audit_replay.specs.Interleaved.{IsInterleaving}
 use Rattle.server_accept.specs.Waiting.{HasHadNone}
 use Rattle.ring.specs.Places.{PlacementView, copies_in}
 use Rattle.server_sockets.specs.Work.{Stays, Works, seats_of, shows}
@@ -41,7 +43,7 @@ use Rattle.dvvstore.specs.Asides.{AreGathered, WithAsides}
 use Rattle.dvvstore.specs.Keeping.{HasBegunWith}
 use Rattle.dvvstore.specs.declared.crew.running.Served.{Served}
 use Rattle.dvvstore.specs.declared.keeper.Begun.{Begun}
-use Rattle.dvvstore.specs.Visits.{AfterAnswers, AfterAnswersOf, AllTellOf, AreVisits, HasAll, HasLed, HasVisited, HaveVisited, IsVisit, Leads, begun, told_with}
+use Rattle.dvvstore.specs.Visits.{AfterAnswers, AfterAnswersOf, AllTellOf, AreVisits, HasAll, HasLed, HasVisited, HaveVisited, IsVisit, Leads, TellsOf, begun, told_with}
 
 -- ---- turn by turn
 
@@ -217,7 +219,16 @@ begins_from finds names takes starts folder first vnodes files begun (Ok s) More
 module _ {H : Type 0} (finds : H → List ℕ → ImageKind → Result (Option Program) NotSeen → H → Type 0)
     (names : H → List ℕ → ImageKind → Result (Option (List ℕ)) NameFault → H → Type 0) (takes : H → Change → Result Unit HookFault → H → Type 0)
     (law : (told : List Told) (logs : List JournalLog) → IsGathered told logs → (start end : StoreView Passing H) (xs : List Exchange) (owns : List (List Told))
-    → AreCallsOf (GivesUnnoted PassCalls finds names takes) told_by start xs owns end → ((t : Told) → Contains (all_calls owns) t → Contains told t) → AreToldBy finds names takes logs start xs owns end) where
+    → AreCallsOf (GivesUnnoted PassCalls finds names takes) told_by start xs owns end → ((t : Told) → Contains (all_calls owns) t → Contains told t) → AreToldBy finds names takes logs start xs owns end)
+    (moments : (told : List Told) (logs : List JournalLog) → IsGathered told logs → (run : IsInterleaving logs) (start end : StoreView Passing H) (xs : List Exchange) (owns : List (List Told))
+    → AreToldBy finds names takes logs start xs owns end → ((t : Told) → Contains (all_calls owns) t → Contains told t) → HappenFrom run 0 (all_calls owns)) where
+  -- where the calls of a visit stand among what was gathered, its answers tell of the journals
+  tells : (all : List Told) (logs : List JournalLog) → IsGathered all logs → (start : StoreView Passing H) (calls : List Told) (visit : IsVisit finds names takes start calls)
+      → ((t : Told) → Contains (all_calls visit.owns) t → Contains all t) → TellsOf finds names takes logs start calls visit
+  tells all logs gathered start calls visit within =
+      let told = law all logs gathered start visit.end (all_parts visit.log) visit.owns visit.made within in
+      (told, λ run. moments all logs gathered run start visit.end (all_parts visit.log) visit.owns told within)
+
   -- where the calls of all visits stand among what was gathered, all answers tell of the journals
   all_tell : (all : List Told) (logs : List JournalLog) → IsGathered all logs → (starts : List (StoreView Passing H)) (calls : List (List Told)) (visits : AreVisits finds names takes starts calls)
       → ((t : Told) → Contains (told_with starts calls) t → Contains all t) → AllTellOf finds names takes logs starts calls visits
@@ -225,7 +236,7 @@ module _ {H : Type 0} (finds : H → List ℕ → ImageKind → Result (Option P
   all_tell all logs gathered [] (calls ∷ rest) none within = absurd none
   all_tell all logs gathered (start ∷ starts) [] none within = absurd none
   all_tell all logs gathered (start ∷ starts) (calls ∷ rest) (visit, visits) within = (
-    law all logs gathered start visit.end (all_parts visit.log) visit.owns visit.made (λ t c.
+    tells all logs gathered start calls visit (λ t c.
         within t (Contains-append_left (told_by start ++ calls) (told_with starts rest) t (Contains-append_right (told_by start) calls t (subst (λ (l : List Told). Contains l t) (sym visit.all) c)))),
     all_tell all logs gathered starts rest visits (λ t c. within t (Contains-append_right (told_by start ++ calls) (told_with starts rest) t c)),
   )

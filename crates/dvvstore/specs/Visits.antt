@@ -17,6 +17,8 @@ use Rattle.http_connections.specs.Halls.{AllStand, HallStands, Log, all_parts}
 use Rattle.http_connections.specs.Sockets.{Sockets}
 use Rattle.http_connections.specs.declared.seat.Seat.{Seat}
 use Rattle.journal.specs.Logs.{Log as JournalLog}
+use Rattle.audit_cluster.specs.Moments.{HappenFrom}
+use Rattle.audit_replay.specs.Interleaved.{IsInterleaving}
 use Rattle.ring.specs.Places.{PlacementView, copies_in}
 use Rattle.server_sockets.specs.Work.{seats_of, shows}
 use Rattle.server_sockets.specs.declared.worker.Worker.{Worker}
@@ -121,9 +123,11 @@ module _ {H : Type 0} (finds : H → List ℕ → ImageKind → Result (Option P
   HaveVisited (start ∷ starts) [] = ⊥
   HaveVisited (start ∷ starts) (back ∷ rest) = HasVisited start back × HaveVisited starts rest
 
-  -- what a worker's answers tell is so of these journals: of each exchange of its connections, by the receipts of its own calls
+  -- what a worker's answers tell is so of these journals: of each exchange of its connections, by the receipts of its own calls; and where the journals are one run,
+  -- these calls are steps of it, one behind the other
   abbrev pub TellsOf : (logs : List JournalLog) (start : StoreView Passing H) (calls : List Told) → IsVisit start calls → Type 0
-  TellsOf logs start calls visit = AreToldBy finds names takes logs start (all_parts visit.log) visit.owns visit.end
+  TellsOf logs start calls visit =
+      AreToldBy finds names takes logs start (all_parts visit.log) visit.owns visit.end × ((run : IsInterleaving logs) → HappenFrom run 0 (all_calls visit.owns))
 
   -- so it is of each worker
   abbrev pub AllTellOf : (logs : List JournalLog) (starts : List (StoreView Passing H)) (calls : List (List Told)) → AreVisits starts calls → Type 0

@@ -16,6 +16,9 @@ pub(crate) const COUNTED_FROM_S: u64 = 1_767_225_600;
 /// How many seconds a minute has.
 pub(crate) const MINUTE_S: u64 = 60;
 
+/// How many milliseconds a second has.
+pub(crate) const SECOND_MS: u64 = 1_000;
+
 // ---- following
 
 /// So many stamps are followed in one turn, in some two tenths of a millisecond. Connections that come meanwhile wait, and so may a thread

@@ -348,7 +348,7 @@ fn lose<O: Write>(alloc: Global, out: &mut O) -> Result<Ended<Said>, Unserved>
     ensures why { IfErr result (λ why. why ≡ Unserved.Unreadable) }
     ensures unkept { IfOk result (λ ended. IsUnkept ended) }
 {
-    tell(alloc, out, "not kept", &"E1")?;
+    tell(alloc, out, "not kept", &Unbegun::NoMemory)?;
     Ok(Ended::Unkept(Said(Verdict::no_memory())))
 }
 

@@ -6,7 +6,7 @@ ghost use Rattle.dvvstore.specs.Asides.{AllRead, AreAllKept, AreListed, IsKept, 
 mod stride;
 
 use crate::crew::{Signs, Until};
-use crate::limits::SNAPSHOT_TICK_MS;
+use crate::limits::{SECOND_MS, SNAPSHOT_TICK_MS};
 use crate::saver::stride::Stride;
 use cluster::{Cluster, Pass, Room};
 use cluster_peers::ClusterPeers;
@@ -42,7 +42,7 @@ impl Schedule {
     /// The first one is made so many seconds from now on.
     fn new(every: u32, now: u64) -> Schedule {
         Schedule {
-            every: u64::from(every).saturating_mul(1_000),
+            every: u64::from(every).saturating_mul(SECOND_MS),
             last: now,
             least: 0,
             has_last: false,

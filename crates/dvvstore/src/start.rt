@@ -2,7 +2,7 @@
 
 ghost use Rattle.std.specs.Prelude.{◌≡◌, ◌≢◌, ◌<◌, ◌+◌, ◌-◌, ◌/◌, ◌%◌, ◌^◌, ℕ, min};
 
-use crate::limits::{COUNTED_FROM_S, MINUTE_S, START_NUMBERS};
+use crate::limits::{COUNTED_FROM_S, MINUTE_S, SECOND_MS, START_NUMBERS};
 
 /// A start of the server.
 #[derive(Clone, Copy)]
@@ -23,7 +23,7 @@ pub fn start_at(seconds: u64, millis: u32) -> Start
 {
     Start {
         number: (seconds % START_NUMBERS) as u32,
-        left: 1_000 - u64::from(millis),
+        left: SECOND_MS - u64::from(millis),
     }
 }
 

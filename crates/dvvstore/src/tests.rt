@@ -33,6 +33,39 @@ const CLIENTS: usize = 3;
 /// The first identifier.
 const FIRST: u32 = 1_792 * VNODES_PER_NUMBER;
 
+/// A hook that rejects is installed.
+const INSTALL: &[u8] =
+    b"PUT /hooks/no HTTP/1.1\r\nHost: h\r\nContent-Length: 32\r\n\r\nRBPF\x01\x01\x00\x00\x80\x00\x00\x00\x00\x00\x00\x00\xb7\x00\x00\x00\x01\x01\x00\x00\x95\x00\x00\x00\x00\x00\x00\x00";
+
+/// It is bound to a bucket.
+const BIND: &[u8] =
+    b"PUT /buckets/b/props HTTP/1.1\r\nHost: h\r\nContent-Length: 28\r\n\r\n{\"props\":{\"precommit\":\"no\"}}";
+
+/// A key of that bucket is written.
+const WRITE_B: &[u8] = b"PUT /buckets/b/keys/k HTTP/1.1\r\nHost: h\r\nContent-Length: 1\r\n\r\nb";
+
+/// The hook rejects that.
+const REJECTED: &[u8] =
+    b"HTTP/1.1 403 Forbidden\r\nContent-Type: text/plain\r\nContent-Length: 5\r\nX-Content-Type-Options: nosniff\r\nServer: dvvstore\r\n\r\nX3 1\n";
+
+/// What was asked is done.
+const DONE: &[u8] =
+    b"HTTP/1.1 204 No Content\r\nX-Content-Type-Options: nosniff\r\nServer: dvvstore\r\n\r\n";
+
+/// A key of another bucket is written.
+const WRITE_C: &[u8] =
+    b"PUT /buckets/c/keys/k HTTP/1.1\r\nHost: h\r\nContent-Type: text/plain\r\nContent-Length: 1\r\n\r\nc";
+
+/// It is read.
+const READ_C: &[u8] = b"GET /buckets/c/keys/k HTTP/1.1\r\nHost: h\r\n\r\n";
+
+/// A key is read.
+const READ_B: &[u8] = b"GET /buckets/b/keys/k HTTP/1.1\r\nHost: h\r\n\r\n";
+
+/// The first write of a key, at the first vnode.
+const WRITTEN: &[u8] =
+    b"HTTP/1.1 204 No Content\r\nX-Riak-Tag: 458752-1\r\nX-Content-Type-Options: nosniff\r\nServer: dvvstore\r\n\r\n";
+
 /// Which client asks what, and what it is told.
 type Line = (usize, &'static [u8], &'static [u8]);
 
@@ -40,44 +73,28 @@ type Line = (usize, &'static [u8], &'static [u8]);
 const TALK: [Line; 9] = [
     (
         0,
-        b"GET /buckets/b/keys/k HTTP/1.1\r\nHost: h\r\n\r\n",
+        READ_B,
         b"HTTP/1.1 404 Not Found\r\nContent-Type: text/plain\r\nContent-Length: 10\r\nX-Content-Type-Options: nosniff\r\nServer: dvvstore\r\n\r\nnot found\n",
     ),
     (
         0,
         b"PUT /buckets/b/keys/k HTTP/1.1\r\nHost: h\r\nContent-Type: text/plain\r\nContent-Length: 1\r\n\r\na",
-        b"HTTP/1.1 204 No Content\r\nX-Riak-Tag: 458752-1\r\nX-Content-Type-Options: nosniff\r\nServer: dvvstore\r\n\r\n",
+        WRITTEN,
     ),
     (
         1,
-        b"GET /buckets/b/keys/k HTTP/1.1\r\nHost: h\r\n\r\n",
+        READ_B,
         b"HTTP/1.1 200 OK\r\nContent-Type: text/plain\r\nX-Riak-Vclock: AgABAAAHAAAAAAAAAAE=\r\nContent-Length: 1\r\nX-Content-Type-Options: nosniff\r\nServer: dvvstore\r\n\r\na",
     ),
     // A hook that rejects is installed and bound by one, and is in force for the others.
-    (
-        0,
-        b"PUT /hooks/no HTTP/1.1\r\nHost: h\r\nContent-Length: 32\r\n\r\nRBPF\x01\x01\x00\x00\x80\x00\x00\x00\x00\x00\x00\x00\xb7\x00\x00\x00\x01\x01\x00\x00\x95\x00\x00\x00\x00\x00\x00\x00",
-        b"HTTP/1.1 204 No Content\r\nX-Content-Type-Options: nosniff\r\nServer: dvvstore\r\n\r\n",
-    ),
-    (
-        0,
-        b"PUT /buckets/b/props HTTP/1.1\r\nHost: h\r\nContent-Length: 28\r\n\r\n{\"props\":{\"precommit\":\"no\"}}",
-        b"HTTP/1.1 204 No Content\r\nX-Content-Type-Options: nosniff\r\nServer: dvvstore\r\n\r\n",
-    ),
-    (
-        1,
-        b"PUT /buckets/b/keys/k HTTP/1.1\r\nHost: h\r\nContent-Length: 1\r\n\r\nb",
-        b"HTTP/1.1 403 Forbidden\r\nContent-Type: text/plain\r\nContent-Length: 5\r\nX-Content-Type-Options: nosniff\r\nServer: dvvstore\r\n\r\nX3 1\n",
-    ),
+    (0, INSTALL, DONE),
+    (0, BIND, DONE),
+    (1, WRITE_B, REJECTED),
     // What each stores, another reads.
-    (
-        1,
-        b"PUT /buckets/c/keys/k HTTP/1.1\r\nHost: h\r\nContent-Type: text/plain\r\nContent-Length: 1\r\n\r\nc",
-        b"HTTP/1.1 204 No Content\r\nX-Riak-Tag: 458752-1\r\nX-Content-Type-Options: nosniff\r\nServer: dvvstore\r\n\r\n",
-    ),
+    (1, WRITE_C, WRITTEN),
     (
         2,
-        b"GET /buckets/c/keys/k HTTP/1.1\r\nHost: h\r\n\r\n",
+        READ_C,
         b"HTTP/1.1 200 OK\r\nContent-Type: text/plain\r\nX-Riak-Vclock: AgABAAAHAAAAAAAAAAE=\r\nContent-Length: 1\r\nX-Content-Type-Options: nosniff\r\nServer: dvvstore\r\n\r\nc",
     ),
     (

@@ -15,6 +15,7 @@ use hook_registry::{HookChanges, Hooks};
 use kept_folder::Folder;
 use kept_hooks::Requests;
 use server_accept::Lobby;
+use server_receipts::laws::{answers_are_by_receipts, answers_are_of_the_run};
 use std::alloc::{AllocError, Global};
 use std::sync::Wait;
 use std::thread;
@@ -132,7 +133,8 @@ pub struct Served {
 /// and what is left of the journals is followed; the vnodes are handed back, whatever is said of them. In their journals stands what the
 /// workers were told, what these passes had been told before and then of reads, and what the watch was told, which has vnodes hand out and
 /// start again and does nothing else. Each answer of a worker tells of these journals, by the receipts of its own calls: a read's is
-/// current among what they had brought before, and a write's dot is that of its entry, which as many vnodes as were asked for know.
+/// current among what they had brought before, and a write's dot is that of its entry, which as many vnodes as were asked for know. Where
+/// the journals are one run from their first entries on, these calls are steps of it, one behind the other.
 ///
 /// The error: memory was refused before the vnodes were gathered, and they are lost; some workers may have answered no connection then.
 pub fn serve<
@@ -162,7 +164,8 @@ pub fn serve<
         watch,
         requests,
     } = run(host, &cluster, crew, lobby)?;
-    server_receipts::laws::answers_are_by_receipts::<H>();
+    answers_are_by_receipts::<H>();
+    answers_are_of_the_run::<H>();
     let passes = all_passes(passes, spares)?;
     let closed = close_watched(host.alloc, cluster, passes, watch, fronts)?;
     Ok(Served { closed, requests })

@@ -141,6 +141,26 @@ struct Floor<'a, B: Room + Spot> {
     ghost first: { cluster.now.first ≡ B.first },
 }
 
+impl<'a, B: Room + Spot> Floor<'a, B> {
+    /// That of some vnodes, whose identifiers begin where those begin that are followed.
+    pub(crate) fn new(
+        alloc: Global,
+        cluster: &'a Cluster<B>,
+        lobby: &'a Lobby,
+        shared: &'a Shared<B>,
+    ) -> Floor<'a, B>
+        requires first { cluster.now.first ≡ B.first }
+        ensures cluster { result.cluster ≡ cluster }
+    {
+        Floor {
+            alloc,
+            cluster,
+            lobby,
+            shared,
+        }
+    }
+}
+
 /// Has the vnodes hand out what they did, and follows so many stamps of it. Answers when the next turn is. Workers rest from then on, or no
 /// longer, as the pace says, and so do those who make snapshots.
 fn follow<B: Room + Spot, R: Wait>(
@@ -398,15 +418,7 @@ fn work_all<
         &|seat: Seat<B, H>| -> Pass<B>
             requires { cluster.now.first ≡ B.first }
             ensures { HasVisited H.finds H.names H.takes (begun cluster.entry.now seat.pass seat.hooking.hooks seat.hooking.table.listed seat.placement) result }
-        {
-            let floor = Floor {
-                alloc,
-                cluster,
-                lobby,
-                shared,
-            };
-            work(rt, &floor, seat)
-        },
+        { work(rt, &Floor::new(alloc, cluster, lobby, shared), seat) },
     );
     shared.over.store(true, SeqCst);
     shared.bell.unpark();
@@ -436,15 +448,7 @@ pub(crate) fn work_attended<
         rt,
         ||
             requires { cluster.now.first ≡ B.first }
-        {
-            let floor = Floor {
-                alloc,
-                cluster,
-                lobby,
-                shared,
-            };
-            attend(rt, &floor)
-        },
+        { attend(rt, &Floor::new(alloc, cluster, lobby, shared)) },
         || -> Result<Vec<Pass<B>>, AllocError>
             requires { cluster.now.first ≡ B.first }
             ensures { IfOk result (λ passes. (vec_len passes ≡ vec_len seats) × HaveVisited H.finds H.names H.takes (map (λ s. begun cluster.entry.now s.pass s.hooking.hooks s.hooking.table.listed s.placement) seats.items) passes.items) }

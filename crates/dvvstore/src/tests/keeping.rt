@@ -10,7 +10,9 @@ use crate::session;
 use crate::session::{Left, Making};
 use crate::spread::Spread;
 use crate::tests::memory::{Pages, Shared};
-use crate::tests::{PATIENCE, is_told, two_tables};
+use crate::tests::{
+    BIND, DONE, INSTALL, PATIENCE, READ_C, REJECTED, WRITE_B, WRITE_C, is_told, two_tables,
+};
 use bpf_helpers::Table;
 use commands::server::{Ended, Says as _, Unserved};
 use dvv::VNODES_PER_NUMBER;
@@ -27,51 +29,54 @@ use std::{io, thread};
 use test_support::expect;
 use vnode::Seed;
 
+/// One more key is written.
+const WRITE_D: &[u8] =
+    b"PUT /buckets/d/keys/k HTTP/1.1\r\nHost: h\r\nContent-Type: text/plain\r\nContent-Length: 1\r\n\r\nd";
+
+/// It is read.
+const READ_D: &[u8] = b"GET /buckets/d/keys/k HTTP/1.1\r\nHost: h\r\n\r\n";
+
+/// The first write of a key, at the vnode with index 0.
+const WRITTEN_AT_0: &[u8] =
+    b"HTTP/1.1 204 No Content\r\nX-Riak-Tag: 0-1\r\nX-Content-Type-Options: nosniff\r\nServer: dvvstore\r\n\r\n";
+
+/// At that with index 1.
+const WRITTEN_AT_1: &[u8] =
+    b"HTTP/1.1 204 No Content\r\nX-Riak-Tag: 1-1\r\nX-Content-Type-Options: nosniff\r\nServer: dvvstore\r\n\r\n";
+
+/// At that with index 3.
+const WRITTEN_AT_3: &[u8] =
+    b"HTTP/1.1 204 No Content\r\nX-Riak-Tag: 3-1\r\nX-Content-Type-Options: nosniff\r\nServer: dvvstore\r\n\r\n";
+
+/// The key of bucket c, as it was written at the vnode with index 0.
+const C_AT_0: &[u8] =
+    b"HTTP/1.1 200 OK\r\nContent-Type: text/plain\r\nX-Riak-Vclock: AgABAAAAAAAAAAAAAAE=\r\nContent-Length: 1\r\nX-Content-Type-Options: nosniff\r\nServer: dvvstore\r\n\r\nc";
+
+/// As at that with index 3.
+const C_AT_3: &[u8] =
+    b"HTTP/1.1 200 OK\r\nContent-Type: text/plain\r\nX-Riak-Vclock: AgABAwAAAAAAAAAAAAE=\r\nContent-Length: 1\r\nX-Content-Type-Options: nosniff\r\nServer: dvvstore\r\n\r\nc";
+
+/// The key of bucket d, as it was written at the vnode with index 1.
+const D_AT_1: &[u8] =
+    b"HTTP/1.1 200 OK\r\nContent-Type: text/plain\r\nX-Riak-Vclock: AgABAQAAAAAAAAAAAAE=\r\nContent-Length: 1\r\nX-Content-Type-Options: nosniff\r\nServer: dvvstore\r\n\r\nd";
+
 /// What a client asks, and what it is told.
 type Line = (&'static [u8], &'static [u8]);
 
 /// A hook that rejects is installed and bound, and a key is written.
-const FIRST: [Line; 3] = [
-    (
-        b"PUT /hooks/no HTTP/1.1\r\nHost: h\r\nContent-Length: 32\r\n\r\nRBPF\x01\x01\x00\x00\x80\x00\x00\x00\x00\x00\x00\x00\xb7\x00\x00\x00\x01\x01\x00\x00\x95\x00\x00\x00\x00\x00\x00\x00",
-        b"HTTP/1.1 204 No Content\r\nX-Content-Type-Options: nosniff\r\nServer: dvvstore\r\n\r\n",
-    ),
-    (
-        b"PUT /buckets/b/props HTTP/1.1\r\nHost: h\r\nContent-Length: 28\r\n\r\n{\"props\":{\"precommit\":\"no\"}}",
-        b"HTTP/1.1 204 No Content\r\nX-Content-Type-Options: nosniff\r\nServer: dvvstore\r\n\r\n",
-    ),
-    (
-        b"PUT /buckets/c/keys/k HTTP/1.1\r\nHost: h\r\nContent-Type: text/plain\r\nContent-Length: 1\r\n\r\nc",
-        b"HTTP/1.1 204 No Content\r\nX-Riak-Tag: 0-1\r\nX-Content-Type-Options: nosniff\r\nServer: dvvstore\r\n\r\n",
-    ),
-];
+const FIRST: [Line; 3] = [(INSTALL, DONE), (BIND, DONE), (WRITE_C, WRITTEN_AT_0)];
 
 /// Another key is written, behind the first snapshot.
-const LATER: [Line; 1] = [(
-    b"PUT /buckets/d/keys/k HTTP/1.1\r\nHost: h\r\nContent-Type: text/plain\r\nContent-Length: 1\r\n\r\nd",
-    b"HTTP/1.1 204 No Content\r\nX-Riak-Tag: 1-1\r\nX-Content-Type-Options: nosniff\r\nServer: dvvstore\r\n\r\n",
-)];
+const LATER: [Line; 1] = [(WRITE_D, WRITTEN_AT_1)];
 
 /// The first key is there, and the hook judges.
-const BOTH: [Line; 2] = [
-    (
-        b"GET /buckets/c/keys/k HTTP/1.1\r\nHost: h\r\n\r\n",
-        b"HTTP/1.1 200 OK\r\nContent-Type: text/plain\r\nX-Riak-Vclock: AgABAAAAAAAAAAAAAAE=\r\nContent-Length: 1\r\nX-Content-Type-Options: nosniff\r\nServer: dvvstore\r\n\r\nc",
-    ),
-    (
-        b"PUT /buckets/b/keys/k HTTP/1.1\r\nHost: h\r\nContent-Length: 1\r\n\r\nb",
-        b"HTTP/1.1 403 Forbidden\r\nContent-Type: text/plain\r\nContent-Length: 5\r\nX-Content-Type-Options: nosniff\r\nServer: dvvstore\r\n\r\nX3 1\n",
-    ),
-];
+const BOTH: [Line; 2] = [(READ_C, C_AT_0), (WRITE_B, REJECTED)];
 
 /// So is the other key.
-const STOPPED: [Line; 1] = [(
-    b"GET /buckets/d/keys/k HTTP/1.1\r\nHost: h\r\n\r\n",
-    b"HTTP/1.1 200 OK\r\nContent-Type: text/plain\r\nX-Riak-Vclock: AgABAQAAAAAAAAAAAAE=\r\nContent-Length: 1\r\nX-Content-Type-Options: nosniff\r\nServer: dvvstore\r\n\r\nd",
-)];
+const STOPPED: [Line; 1] = [(READ_D, D_AT_1)];
 
-/// What a client of one start asks, of so many vnodes where it begins with no file, before a snapshot and behind it. Another is waited for then: it has begun behind all that was asked
-/// first. Where nothing is asked behind it none is waited for.
+/// What a client of one start asks, of so many vnodes where it begins with no file, before a snapshot and behind it. Another is waited for
+/// then: it has begun behind all that was asked first. Where nothing is asked behind it none is waited for.
 #[derive(Clone, Copy)]
 struct Round {
     vnodes: u32,
@@ -99,73 +104,37 @@ const ROUNDS: [Round; 3] = [
 ];
 
 /// Two keys are written to one vnode.
-const TO_ONE: [Line; 2] = [
-    (
-        b"PUT /buckets/c/keys/k HTTP/1.1\r\nHost: h\r\nContent-Type: text/plain\r\nContent-Length: 1\r\n\r\nc",
-        b"HTTP/1.1 204 No Content\r\nX-Riak-Tag: 0-1\r\nX-Content-Type-Options: nosniff\r\nServer: dvvstore\r\n\r\n",
-    ),
-    (
-        b"PUT /buckets/d/keys/k HTTP/1.1\r\nHost: h\r\nContent-Type: text/plain\r\nContent-Length: 1\r\n\r\nd",
-        b"HTTP/1.1 204 No Content\r\nX-Riak-Tag: 0-1\r\nX-Content-Type-Options: nosniff\r\nServer: dvvstore\r\n\r\n",
-    ),
-];
+const TO_ONE: [Line; 2] = [(WRITE_C, WRITTEN_AT_0), (WRITE_D, WRITTEN_AT_0)];
 
 /// They are there.
 const OF_ONE: [Line; 2] = [
+    (READ_C, C_AT_0),
     (
-        b"GET /buckets/c/keys/k HTTP/1.1\r\nHost: h\r\n\r\n",
-        b"HTTP/1.1 200 OK\r\nContent-Type: text/plain\r\nX-Riak-Vclock: AgABAAAAAAAAAAAAAAE=\r\nContent-Length: 1\r\nX-Content-Type-Options: nosniff\r\nServer: dvvstore\r\n\r\nc",
-    ),
-    (
-        b"GET /buckets/d/keys/k HTTP/1.1\r\nHost: h\r\n\r\n",
+        READ_D,
         b"HTTP/1.1 200 OK\r\nContent-Type: text/plain\r\nX-Riak-Vclock: AgABAAAAAAAAAAAAAAE=\r\nContent-Length: 1\r\nX-Content-Type-Options: nosniff\r\nServer: dvvstore\r\n\r\nd",
     ),
 ];
 
 /// Two keys are written to four vnodes, at the places that the digests of the keys give.
-const TO_FOUR: [Line; 2] = [
-    (
-        b"PUT /buckets/c/keys/k HTTP/1.1\r\nHost: h\r\nContent-Type: text/plain\r\nContent-Length: 1\r\n\r\nc",
-        b"HTTP/1.1 204 No Content\r\nX-Riak-Tag: 3-1\r\nX-Content-Type-Options: nosniff\r\nServer: dvvstore\r\n\r\n",
-    ),
-    (
-        b"PUT /buckets/d/keys/k HTTP/1.1\r\nHost: h\r\nContent-Type: text/plain\r\nContent-Length: 1\r\n\r\nd",
-        b"HTTP/1.1 204 No Content\r\nX-Riak-Tag: 1-1\r\nX-Content-Type-Options: nosniff\r\nServer: dvvstore\r\n\r\n",
-    ),
-];
+const TO_FOUR: [Line; 2] = [(WRITE_C, WRITTEN_AT_3), (WRITE_D, WRITTEN_AT_1)];
 
 /// They are there.
-const OF_FOUR: [Line; 2] = [
-    (
-        b"GET /buckets/c/keys/k HTTP/1.1\r\nHost: h\r\n\r\n",
-        b"HTTP/1.1 200 OK\r\nContent-Type: text/plain\r\nX-Riak-Vclock: AgABAwAAAAAAAAAAAAE=\r\nContent-Length: 1\r\nX-Content-Type-Options: nosniff\r\nServer: dvvstore\r\n\r\nc",
-    ),
-    (
-        b"GET /buckets/d/keys/k HTTP/1.1\r\nHost: h\r\n\r\n",
-        b"HTTP/1.1 200 OK\r\nContent-Type: text/plain\r\nX-Riak-Vclock: AgABAQAAAAAAAAAAAAE=\r\nContent-Length: 1\r\nX-Content-Type-Options: nosniff\r\nServer: dvvstore\r\n\r\nd",
-    ),
-];
+const OF_FOUR: [Line; 2] = [(READ_C, C_AT_3), (READ_D, D_AT_1)];
 
 /// Two keys are written to sixteen vnodes.
 const TO_SIXTEEN: [Line; 2] = [
+    (WRITE_C, WRITTEN_AT_3),
     (
-        b"PUT /buckets/c/keys/k HTTP/1.1\r\nHost: h\r\nContent-Type: text/plain\r\nContent-Length: 1\r\n\r\nc",
-        b"HTTP/1.1 204 No Content\r\nX-Riak-Tag: 3-1\r\nX-Content-Type-Options: nosniff\r\nServer: dvvstore\r\n\r\n",
-    ),
-    (
-        b"PUT /buckets/d/keys/k HTTP/1.1\r\nHost: h\r\nContent-Type: text/plain\r\nContent-Length: 1\r\n\r\nd",
+        WRITE_D,
         b"HTTP/1.1 204 No Content\r\nX-Riak-Tag: 13-1\r\nX-Content-Type-Options: nosniff\r\nServer: dvvstore\r\n\r\n",
     ),
 ];
 
 /// They are there.
 const OF_SIXTEEN: [Line; 2] = [
+    (READ_C, C_AT_3),
     (
-        b"GET /buckets/c/keys/k HTTP/1.1\r\nHost: h\r\n\r\n",
-        b"HTTP/1.1 200 OK\r\nContent-Type: text/plain\r\nX-Riak-Vclock: AgABAwAAAAAAAAAAAAE=\r\nContent-Length: 1\r\nX-Content-Type-Options: nosniff\r\nServer: dvvstore\r\n\r\nc",
-    ),
-    (
-        b"GET /buckets/d/keys/k HTTP/1.1\r\nHost: h\r\n\r\n",
+        READ_D,
         b"HTTP/1.1 200 OK\r\nContent-Type: text/plain\r\nX-Riak-Vclock: AgABDQAAAAAAAAAAAAE=\r\nContent-Length: 1\r\nX-Content-Type-Options: nosniff\r\nServer: dvvstore\r\n\r\nd",
     ),
 ];

@@ -15,7 +15,7 @@ returns-clause-kept g c =
     let logs = c.in_ok-closed.closed.vnodes.items in
     let told = with_asides c.args.cluster.first c.args.crew.spares.items back.spares.items (λ (ts : List Told). IsGathered ts logs) back.passes.items c.in_ok-passes-2.passes.items back.watch.told
     c.in_ok-passes-2.ensures.all c.in_ok-passes.ensures.spares c.in_ok-closed.ensures.watched c.in_ok-closed.ensures.kept.0 in (
-      answers_after g.H.Hooks.finds g.H.Hooks.names g.H.HookChanges.takes c.answers_are_by_receipts.ensures _ c.args.cluster.first c.args.crew.spares.items logs all.0 all.1
+      answers_after g.H.Hooks.finds g.H.Hooks.names g.H.HookChanges.takes c.answers_are_by_receipts.ensures c.answers_are_of_the_run.ensures _ c.args.cluster.first c.args.crew.spares.items logs all.0 all.1
           (subst (WithAsides c.args.cluster.first c.args.crew.spares.items (λ (ts : List Told). IsGathered ts logs)) all.2 told),
       c.in_ok-closed.ensures.kept.1,
     )
@@ -28,5 +28,5 @@ returns-clause-followed g c none =
     let Follows : List Told → Type 0 = λ ts. IsFollowedTo ts c.args.cluster.vnodes said in
     let told = with_asides c.args.cluster.first c.args.crew.spares.items back.spares.items Follows back.passes.items c.in_ok-passes-2.passes.items back.watch.told
     c.in_ok-passes-2.ensures.all c.in_ok-passes.ensures.spares c.in_ok-closed.ensures.watched (c.in_ok-closed.ensures.followed none) in
-    answers_of g.H.Hooks.finds g.H.Hooks.names g.H.HookChanges.takes c.answers_are_by_receipts.ensures _ c.args.cluster.first c.args.crew.spares.items Follows all.0 all.1
+    answers_of g.H.Hooks.finds g.H.Hooks.names g.H.HookChanges.takes c.answers_are_by_receipts.ensures c.answers_are_of_the_run.ensures _ c.args.cluster.first c.args.crew.spares.items Follows all.0 all.1
     (subst (WithAsides c.args.cluster.first c.args.crew.spares.items Follows) all.2 told)
