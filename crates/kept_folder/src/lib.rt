@@ -25,6 +25,3 @@ pub use names::HOOKS;
 pub use opening::{Held, OpenFault, Opened, keep_number, open};
 pub use settings::{Settings, SyncPolicy};
 pub use writing::{Unreplaced, WriteFault, keep_all, keep_requests, keep_served};
-
-#[test]
-fn nothing(rt: HostRuntime) {}

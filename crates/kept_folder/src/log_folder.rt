@@ -1,6 +1,6 @@
 //! Where a folder keeps its logs, and how a log ends.
 
-ghost use Rattle.std.specs.Prelude.{◌≡◌, ℕ, List, [], ◌∷◌, IfOk, OnOk, IsTrue};
+ghost use Rattle.std.specs.Prelude.{◌≡◌, ◌++◌, ℕ, List, [], ◌∷◌, IfOk, OnOk, IsTrue};
 ghost use Rattle.kept_file.specs.Files.{end_of};
 ghost use Rattle.kept_folder.specs.Ends.{IsEndedBehind};
 ghost use Rattle.log_file.specs.LogFiles as file;
@@ -8,7 +8,7 @@ ghost use Rattle.record_codec.specs.Lists.{AreSpelledBy};
 
 use crate::files::FileFault;
 use key_state::{Key, KeyState};
-use log_file::{Device, LogFile};
+use log_file::{Device, DeviceFault, LogFile};
 use log_tail::records_in_front;
 use record_codec::{Unspelled, record_bytes};
 use std::alloc::{AllocError, Global};
@@ -61,10 +61,18 @@ pub fn end_log<F: LogFolder>(
     let (device, bytes) = folder.open_log(alloc, number)?;
     let (records, taken) = records_in_front(alloc, &bytes)?;
     let end = end_bytes(alloc, records.len() as u64)?;
-    let mut log = LogFile::new(device, taken);
-    if log.append(&end).is_err() || log.force().is_err() {
-        return Err(FileFault::Refused);
+    match forced_with(LogFile::new(device, taken), &end) {
+        Ok(log) => Ok(log),
+        Err(_) => Err(FileFault::Refused),
     }
+}
+
+/// A log to which bytes were appended, and which was forced.
+fn forced_with<D: Device + Drop>(mut log: LogFile<D>, bytes: &[u8]) -> Result<LogFile<D>, DeviceFault>
+    ensures { IfOk result (λ all. file.forced all ≡ file.appended log.entry ++ bytes.now) }
+{
+    log.append(bytes)?;
+    log.force()?;
     Ok(log)
 }
 

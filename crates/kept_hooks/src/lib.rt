@@ -21,6 +21,3 @@ pub use recorder::Recorder;
 pub use refused::RefusedHook;
 pub use replaying::ReplayFault;
 pub use writes::Writes;
-
-#[test]
-fn nothing(rt: HostRuntime) {}

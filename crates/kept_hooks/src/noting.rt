@@ -45,11 +45,18 @@ pub trait Notes {
     /// It was noted that a resolver may be bound from now on.
     ghost resolver_noted: { Type 0 };
 
+    /// It was noted that hooks are changed, or which are bound.
+    ghost hooks_noted: { Type 0 };
+
     /// A key was noted to which something may be written.
     ghost key_noted: { OneKey → Type 0 };
 
     /// A key was noted that is read, to which a resolver may write what it chooses.
     ghost asked_noted: { OneKey → Type 0 };
+
+    /// Hooks are about to be changed, or which are bound.
+    fn note_hooks(&self)
+        ensures { hooks_noted };
 
     /// A key is about to be written.
     fn note_key(&self, key: &Key)
@@ -101,9 +108,13 @@ impl Notes for Writes {
 
     ghost resolver_noted = { Unit {0} };
 
+    ghost hooks_noted = { Unit {0} };
+
     ghost key_noted = { λ _. Unit {0} };
 
     ghost asked_noted = { λ _. Unit {0} };
+
+    fn note_hooks(&self) {}
 
     fn note_key(&self, _key: &Key) {}
 

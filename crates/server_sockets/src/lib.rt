@@ -27,6 +27,3 @@ pub use orders::{Orders, Stance, Turned};
 pub use unlogged::Unlogged;
 pub use watch::Watch;
 pub use worker::{Worker, open};
-
-#[test]
-fn nothing(rt: HostRuntime) {}
