@@ -196,11 +196,19 @@ impl Sockets {
     {
         let untold = mem::replace(&mut self.untold, Vec::new(self.alloc));
         for number in &untold {
-            if let Some(line) = self.lines.get_mut(number) {
-                line.credit(self.now);
-            }
+            self.credit(*number);
         }
         untold
+    }
+
+    // What waits of a connection may be written.
+    fn credit(&mut self, number: u64)
+        ensures next { self.new.next ≡ self.old.next }
+    {
+        let now = self.now;
+        if let Some(line) = self.lines.get_mut(&number) {
+            line.credit(now);
+        }
     }
 
     // A connection that was not written to waits for the log, if that is why.
@@ -219,6 +227,19 @@ impl Sockets {
         }
         line.is_untold = true;
         Ok(())
+    }
+
+    // Tells a connection bytes of its answers, or has it wait for the log.
+    fn send(&mut self, number: u64, bytes: &[u8]) -> Result<Told, Failed>
+        requires { 0 < length bytes.now }
+        ensures next { self.new.next ≡ self.old.next }
+        ensures fits { IfOk result (FitsTold (length bytes.now)) }
+    {
+        let told = self.tell(number, bytes)?;
+        if told == Told::NotNow {
+            self.await_log(number)?;
+        }
+        Ok(told)
     }
 
     // Tells a connection bytes of its answers, all of them or those that tell of nothing that the log lacks.
@@ -450,11 +471,7 @@ impl Ring for Sockets {
 
     fn write(&mut self, number: u64, bytes: &[u8]) -> Result<Told, Failed> {
         self.skip(number);
-        let told = self.tell(number, bytes)?;
-        if told == Told::NotNow {
-            self.await_log(number)?;
-        }
-        Ok(told)
+        self.send(number, bytes)
     }
 
     fn call_again(&mut self, number: u64) -> Result<(), Failed> {
