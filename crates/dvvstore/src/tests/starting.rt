@@ -11,7 +11,7 @@ use crate::tests::two_tables;
 use audit_faults::{Followed, WatchFault};
 use dvv::{Clock, VNODES_PER_NUMBER};
 use kept_file::{KeptFile, Source};
-use kept_folder::{Held, Settings};
+use kept_folder::{Held, Settings, SyncPolicy};
 use key_state::{Content, Key, KeyState};
 use record_codec::Record;
 use std::alloc::Global;
@@ -80,6 +80,7 @@ fn kept_store(rt: HostRuntime) -> Result<(), Fail> {
                 every: 0,
                 least: 0,
                 copies: 3,
+                sync: SyncPolicy::Always,
             },
             hooks: Vec::new(alloc),
             files,
