@@ -43,6 +43,7 @@ NAMES = (
     "service",
     "proxies",
     "kills",
+    "log_tails",
     "damages",
     "folders",
     "copies",

@@ -13,6 +13,7 @@ use dvv::{Clock, VNODES_PER_NUMBER};
 use kept_file::{KeptFile, Source};
 use kept_folder::{Held, Settings, SyncPolicy};
 use key_state::{Content, Key, KeyState};
+use log_desk::NoLedger;
 use record_codec::Record;
 use std::alloc::Global;
 use std::io;
@@ -92,6 +93,7 @@ fn kept_store(rt: HostRuntime) -> Result<(), Fail> {
             count: Some(0),
             input: rt.stdin(),
         }),
+        ledger: &NoLedger,
         err: rt.stderr(),
     };
     let making = Making {
