@@ -15,7 +15,7 @@ use Rattle.record_codec.specs.declared.record.Record.{Record}
 use Rattle.dvvstore.specs.Asides.{AllRead, AreGathered, AreSpared, WithAsides}
 
 -- what passes were told
-abbrev all_told : List View → List Told
+abbrev pub all_told : List View → List Told
 all_told passes = flat_map (λ p. p.told) passes
 
 -- what all passes were told is what some were told, and more

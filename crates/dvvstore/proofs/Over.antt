@@ -42,15 +42,24 @@ module _ {F : Type 0} (finds : F → List ℕ → Option (List ℕ) → Type 0) 
   }
   one_kept minute tables old mid new opened size placed served (ended.Unkept said) opens first some many places begins serves says puts = tt
 
-  -- what a stop wrote
-  pub kept_over : (minute : ℕ) (tables : List (List Entry)) (old mid new : F) (opened : Opened) (size : Size) (placed : List KeptFile) (served : Served) {E : Type 0} (came : Result (Ended Said) E)
-      → IsOpened finds does minute old opened mid → size.first ≡ opened.number * 256 → 0 < size.vnodes → size.vnodes ≤ 16
-      → ArePlaced (by_digest size.vnodes opened.held.settings.copies) opened.held.files.items placed → IsLeftFolded (Some mid) size.first size.vnodes placed served
+  -- a store is served with what its folder held: as many copies, and its list of requests
+  serves_held : (copies : ℕ) (hooks : List ℕ) (opened : Opened) (size : Size) (tables : List (List Entry)) (served : Served) → copies ≡ opened.held.settings.copies → hooks ≡ opened.held.hooks.items
+      → HasServed Finds Names Takes size.vnodes (BeginOver Takes size copies tables (Some hooks)) served
       → HasServed Finds Names Takes size.vnodes (BeginOver Takes size opened.held.settings.copies tables (Some opened.held.hooks.items)) served
+  serves_held copies hooks opened size tables served as_many same serves =
+      subst (λ (n : ℕ). HasServed Finds Names Takes size.vnodes (BeginOver Takes size n tables (Some opened.held.hooks.items)) served) as_many
+      (subst (λ (h : List ℕ). HasServed Finds Names Takes size.vnodes (BeginOver Takes size copies tables (Some h)) served) same serves)
+
+  -- what a stop wrote
+  pub kept_over : (minute : ℕ) (tables : List (List Entry)) (old mid new : F) (opened : Opened) (size : Size) (copies : ℕ) (hooks : List ℕ) (placed : List KeptFile) (served : Served) {E : Type 0} (came : Result (Ended Said) E)
+      → IsOpened finds does minute old opened mid → size.first ≡ opened.number * 256 → 0 < size.vnodes → size.vnodes ≤ 16 → copies ≡ opened.held.settings.copies → hooks ≡ opened.held.hooks.items
+      → ArePlaced (by_digest size.vnodes copies) opened.held.files.items placed → IsLeftFolded (Some mid) size.first size.vnodes placed served
+      → HasServed Finds Names Takes size.vnodes (BeginOver Takes size copies tables (Some hooks)) served
       → IfOk came (λ e. ended_says e ≡ served.closed.said) → IfOk came (Keeps finds does opened.number served mid new) → IfOk came (KeptOver finds does minute tables old new)
-  kept_over minute tables old mid new opened size placed served (Ok said) opens first some many places begins serves says puts =
-      one_kept minute tables old mid new opened size placed served said opens first some many places begins serves says puts
-  kept_over minute tables old mid new opened size placed served (Err why) opens first some many places begins serves says puts = puts
+  kept_over minute tables old mid new opened size copies hooks placed served (Ok said) opens first some many as_many same places begins serves says puts =
+      one_kept minute tables old mid new opened size placed served said opens first some many (subst (λ (n : ℕ). ArePlaced (by_digest size.vnodes n) opened.held.files.items placed) as_many places) begins
+      (serves_held copies hooks opened size tables served as_many same serves) says puts
+  kept_over minute tables old mid new opened size copies hooks placed served (Err why) opens first some many as_many same places begins serves says puts = puts
 
   not_kept : (minute : ℕ) (tables : List (List Entry)) (old new : F) (said : Ended Said) → IsUnkept said → KeptOver finds does minute tables old new said
   not_kept minute tables old new (ended.Kept said) none = absurd none

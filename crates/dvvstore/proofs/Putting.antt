@@ -1,5 +1,5 @@
 -- What a stop puts into a folder.
-use Rattle.std.proofs.Common.{◌≡◌, ◌++◌, ◌∷◌, [], ℕ, List, Option, Some, None, Result, Ok, Err, Unit, IfOk, IfSome, OnOk, codes, subst, sym, true}
+use Rattle.std.proofs.Common.{◌≡◌, ◌++◌, ◌∷◌, [], ℕ, List, Option, Some, None, Result, Ok, Err, IfOk, IfSome, OnOk, codes, subst, sym, true}
 use Rattle.journal.specs.Logs.{Log}
 use Rattle.kept_folder.specs.Seals.{sealed}
 use Rattle.kept_folder.specs.Steps.{ArePut, AreFilesOf, IsPut, Put, Step}

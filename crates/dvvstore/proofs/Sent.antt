@@ -30,6 +30,7 @@ use Rattle.dvvstore.proofs.saver.Shelf.TheSendSync as shelf
 use Rattle.dvvstore.specs.contracts.crew.signs.Signs as Signs
 use Rattle.dvvstore.specs.contracts.beginning.Load as Load
 use Rattle.dvvstore.proofs.beginning.Load.TheSendSync as load
+use Rattle.kept_folder.proofs.writing.Unreplaced.TheSendSync as unreplaced
 use Rattle.kept_hooks.specs.contracts.list.Requests as Requests
 use Rattle.kept_hooks.proofs.list.Requests.TheSendSync as requests
 use Rattle.kept_hooks.proofs.writes.Writes.TheSendSync as writes
@@ -68,7 +69,7 @@ peers_send : (l : _) (B R : RattleType) (g : room.Ghosts B.Denot) → IsSend (In
 peers_send l B R g s = search (s, sendable) depth 20
 
 pub side_send : (l : _) (B R : RattleType) (g : room.Ghosts B.Denot) → IsSend B → IsSync B → IsSync R → IsSend (Side.the_row l B R g)
-side_send l B R g s y r = declared_send (Side.the_type l B R g) (peers_send l B R g (inside_send l B R g s y r), (search (sendable, crosses) depth 20, tt))
+side_send l B R g s y r = declared_send (Side.the_type l B R g) (peers_send l B R g (inside_send l B R g s y r), (search (unreplaced.the_send, sendable, crosses) depth 30, tt))
 
 pub shelf_sync : (F : RattleType) → IsSync F → IsSync (Shelf.the_row F)
 shelf_sync F s = search (shelf.the_sync, s, sendable, crosses) depth 40

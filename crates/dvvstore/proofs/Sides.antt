@@ -118,10 +118,6 @@ module _ {S : Type 0} (peers : S → Reach) (size : Size) where
     counted : (side : S) (count : ℕ) (P : ℕ → Type 0) → came side ≡ Ok count → IfOk (came side) P → P count
     counted side count P is so = subst (λ (c : Result ℕ E). IfOk c P) is so
 
-    if_as : (c : Result ℕ E) (P Q : ℕ → Type 0) → ((n : ℕ) → P n → Q n) → IfOk c P → IfOk c Q
-    if_as (Ok n) P Q f p = f n p
-    if_as (Err why) P Q f p = p
-
     count_is : (new : S) (news : List S) (count : ℕ) (counts : List ℕ) → map came (new ∷ news) ≡ map Ok (count ∷ counts) → came new ≡ Ok count
     count_is new news count counts is = ap (λ (cs : List (Result ℕ E)). get_or cs 0 (Ok count)) is
 

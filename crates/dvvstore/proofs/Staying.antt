@@ -8,7 +8,7 @@ use Rattle.journal.specs.Logs.{Log}
 use Rattle.cluster_stamps.specs.declared.view.View.{View}
 use Rattle.cluster_vnode.specs.Calls.{pass_view}
 use Rattle.kept_fold.specs.Folds.{AreFolded}
-use Rattle.kept_restore.specs.Beginnings.{BeginWithFiles}
+use Rattle.kept_restore.specs.Beginnings.{BeginWithFiles, HaveLoaded}
 use Rattle.audit_cluster.specs.Following.{IsSaidOf}
 use Rattle.commands.specs.Command.{HasRefused}
 use Rattle.commands.specs.declared.server.Unserved.{Unserved}
@@ -28,6 +28,12 @@ pub leaves_as : {F : Type 0} → (folder : Option F) (first number many vnodes :
     → Leaves folder first many files left → Leaves folder number vnodes files left
 leaves_as folder first number many vnodes files left is as_many so =
     subst (λ (n : ℕ). Leaves folder n vnodes files left) is (subst (λ (n : ℕ). Leaves folder first n files left) as_many so)
+
+-- what was loaded, said of the same numbers, files and passes
+pub loaded_as : (id first : ℕ) (files held : List KeptFile) (olds news passes : List View) → id ≡ first → files ≡ held → passes ≡ news → HaveLoaded id 0 files olds news → HaveLoaded first 0 held olds passes
+loaded_as id first files held olds news passes is same back loaded =
+    subst (λ (n : ℕ). HaveLoaded n 0 held olds passes) is
+    (subst (λ (fs : List KeptFile). HaveLoaded id 0 fs olds passes) same (subst (λ (ps : List View). HaveLoaded id 0 files olds ps) (sym back) loaded))
 
 -- what begins with files whose keys are folded leaves what the folder held so
 pub leaves_folded : {F : Type 0} → (folder kept : Option F) (first number vnodes : ℕ) (held files : List KeptFile) (left : Result Left Unbegun) → number ≡ first / 256 → kept ≡ folder → AreFolded number held files

@@ -1,27 +1,12 @@
--- What one pass of several was told.
-use Rattle.std.proofs.Common.{◌≡◌, ◌++◌, ◌∷◌, [], ℕ, List, Option, Some, None, Result, Ok, Err, OnOk, IfOk, codes, decimal, ap, sym, subst, ◌∙◌, append_assoc, flat_map}
-use Rattle.std.proofs.lemmas.Grind.{flat_map-append}
-use Rattle.std.proofs.lemmas.List.{append-nil}
+-- What was told on the output.
+use Rattle.std.proofs.Common.{◌++◌, ℕ, List, Option, Some, None, Result, Ok, Err, OnOk, IfOk, codes, decimal, ap, ◌∙◌, append_assoc}
 use Rattle.std.specs.Io.KnownBytes.{Appends}
 use Rattle.commands.specs.Command.{HasKept, begun}
 use Rattle.commands.specs.declared.server.Ended.{Ended}
 use Rattle.commands.specs.declared.server.Unserved.{Unserved}
 use Rattle.commands.specs.declared.server.Ended.TheVariants as ended
 use Rattle.commands.specs.Outcome.{line}
-use Rattle.journal.specs.Logs.{Log}
-use Rattle.cluster_stamps.specs.declared.view.Told.{Told}
-use Rattle.cluster_stamps.specs.declared.view.View.{View}
-use Rattle.cluster_vnode.specs.Gathers.{IsGathered}
 use Rattle.dvvstore.specs.Keeping.{HasBegun, HasEnded}
-
--- what passes were told
-abbrev all_told : List View → List Told
-all_told passes = flat_map (λ p. p.told) passes
-
-pub told_among : (passes all : List View) (pass : View) (rest : List Told) (logs : List Log) → all ≡ passes ++ pass ∷ [] → IsGathered (all_told all ++ rest) logs → (before after : List Told) × IsGathered (before ++ pass.told ++ after) logs
-told_among passes all pass rest logs is gathered =
-    let parts : all_told all ≡ all_told passes ++ pass.told = ap all_told is ∙ flat_map-append (λ p. p.told) passes (pass ∷ []) ∙ ap (λ (ts : List Told). all_told passes ++ ts) (append-nil pass.told) in
-    (all_told passes, rest, subst (λ (ts : List Told). IsGathered (ts ++ rest) logs) parts gathered)
 
 -- a text was told
 pub some_told : {T E : Type 0} (r : Result T E) (P : List ℕ → Type 0) (text : List ℕ) → OnOk r (P text) → OnOk r ((x : List ℕ) × P x)

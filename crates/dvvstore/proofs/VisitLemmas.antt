@@ -1,5 +1,5 @@
 -- On the visits of workers.
-use Rattle.std.proofs.Common.{◌≡◌, ◌∙◌, ◌+◌, ℕ, suc, ◌<◌, List, [], ◌∷◌, ◌++◌, Option, Some, None, Result, Ok, Err, IfOk, ap, refl, sym, subst, arith, append-nil, append_assoc, flat_map, length, map}
+use Rattle.std.proofs.Common.{◌≡◌, ◌∙◌, ◌+◌, ℕ, suc, ◌<◌, List, [], ◌∷◌, ◌++◌, Option, Some, None, Result, Ok, Err, IfOk, ap, refl, sym, subst, arith, append-nil, append_assoc, length, map}
 use Rattle.std.specs.Prelude.{slice_index_or}
 use Rattle.std.specs.List.{Contains}
 use Rattle.std.proofs.lemmas.List.Elements.{Contains-append_left, Contains-append_right}
@@ -37,7 +37,7 @@ use Rattle.kept_file.specs.declared.file.KeptFile.{KeptFile}
 use Rattle.kept_restore.specs.Beginnings.{BeginWithFiles, BeginsWith}
 use Rattle.kept_restore.specs.Loads.{HasLoaded}
 use Rattle.record_codec.specs.declared.record.Record.{Record}
-use Rattle.dvvstore.proofs.Among.{LoadsStand, all_begin}
+use Rattle.dvvstore.proofs.Among.{LoadsStand, all_begin, all_told}
 use Rattle.server_receipts.specs.Receipts.{AreToldBy}
 use Rattle.dvvstore.specs.Asides.{AreGathered, WithAsides}
 use Rattle.dvvstore.specs.Keeping.{HasBegunWith}
@@ -115,10 +115,6 @@ begun_as size size' pass pass' failures h i l m a b sizes passes none hooks list
 
 -- ---- visits
 
--- what passes were told
-abbrev all_told : List View → List Told
-all_told passes = flat_map (λ p. p.told) passes
-
 calls_add : {B : Type 0} (gives : B → Call → Reply → B → Type 0) (told : B → List Told) (start end : B) (xs : List Exchange) (owns : List (List Told)) → AreCallsOf gives told start xs owns end → told end ≡ told start ++ all_calls owns
 calls_add gives told start end [] [] e = ap told e ∙ sym (append-nil (told start))
 calls_add gives told start end [] (own ∷ owns) none = absurd none
@@ -134,10 +130,6 @@ module _ {H : Type 0} (finds : H → List ℕ → ImageKind → Result (Option P
 
   pub not_visited : (start : StoreView Passing H) (back : View) → back ≡ start.peers.pass → HasVisited finds names takes start back
   not_visited start back is = ([], no_visit start, ap (λ (v : View). v.told) is ∙ sym (append-nil (told_by start)))
-
-  pub no_visits : (starts : List (StoreView Passing H)) → (calls : List (List Told)) × AreVisits finds names takes starts calls
-  no_visits [] = ([], tt)
-  no_visits (start ∷ starts) = let rest = no_visits starts in ([] ∷ rest.0, (no_visit start, rest.1))
 
   -- the visit of a worker whose calls have led a store on
   pub visited : (start end : StoreView Passing H) (back : View) (log : Log) (sockets : Sockets) (seats : ℕ → Option Seat) (copies : ℕ) → back ≡ end.peers.pass

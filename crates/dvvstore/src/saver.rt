@@ -301,6 +301,7 @@ impl<F: Folder> Shelf<F> {
     /// Replaces the file of the requests that install and bind hooks. It stays where one of them is lacking, or memory for them.
     fn write_requests<R: Wait>(&mut self, rt: &R, signs: &Signs<'_>) -> Result<(), Unreplaced>
         ensures put { OnOk result (AreListed F.does self.old.folder self.new.folder) }
+        ensures first { self.new.first ≡ self.old.first }
     {
         let _filing = signs.filing.lock(rt);
         match signs.requests(rt) {

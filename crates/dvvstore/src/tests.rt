@@ -105,6 +105,22 @@ const TALK: [Line; 9] = [
     ),
 ];
 
+/// A value of so many bytes 0 is written in place of the one that was read.
+const LARGE_BYTES: usize = 65_536;
+
+const WRITE_LARGE: &[u8] =
+    b"PUT /buckets/c/keys/k HTTP/1.1\r\nHost: h\r\nX-Riak-Vclock: AgABAAAHAAAAAAAAAAE=\r\nContent-Type: text/plain\r\nContent-Length: 65536\r\n\r\n";
+
+const WRITTEN_LARGE: &[u8] =
+    b"HTTP/1.1 204 No Content\r\nX-Riak-Tag: 458752-2\r\nX-Content-Type-Options: nosniff\r\nServer: dvvstore\r\n\r\n";
+
+/// What stands before it where it is read.
+const LARGE_HEAD: &[u8] =
+    b"HTTP/1.1 200 OK\r\nContent-Type: text/plain\r\nX-Riak-Vclock: AgABAAAHAAAAAAAAAAI=\r\nContent-Length: 65536\r\nX-Content-Type-Options: nosniff\r\nServer: dvvstore\r\n\r\n";
+
+/// So often it is asked for before an answer is read: the answers are more than the 4 MiB that the system takes at the most.
+const LARGE_READS: usize = 72;
+
 /// So many seconds an answer is waited for.
 const PATIENCE: u64 = 10;
 
@@ -147,8 +163,33 @@ fn talk(clients: &mut [TcpStream]) -> io::Result<usize> {
     Ok(TALK.len())
 }
 
+/// Writes the large value.
+fn write_large(alloc: Global, client: &mut TcpStream) -> io::Result<bool> {
+    let value = vec![in alloc; 0u8; LARGE_BYTES]?;
+    client.write_all(WRITE_LARGE)?;
+    is_told(client, &value, WRITTEN_LARGE)
+}
+
+/// Whether a client that asks for the large value time after time, and reads nothing meanwhile, is told all of it each time.
+fn reads_large(alloc: Global, client: &mut TcpStream) -> io::Result<bool> {
+    for _ in 0..LARGE_READS {
+        client.write_all(READ_C)?;
+    }
+    let mut told = LARGE_HEAD.to_vec(alloc)?;
+    told.extend_from_slice(&vec![in alloc; 0u8; LARGE_BYTES]?)?;
+    let mut answer = vec![in alloc; 0u8; told.len()]?;
+    for _ in 0..LARGE_READS {
+        client.read_exact(&mut answer)?;
+        if answer != told {
+            return Ok(false);
+        }
+    }
+    Ok(true)
+}
+
 /// How many lines of the talk clients are told as they should be that connect there, and, where they leave only once the server hung up,
-/// how many of them see that it did. The server is told to stop where it doesn't count connections.
+/// how many of them see that it did; none where one isn't told answers whole that the system takes in pieces. The server is told to stop
+/// where it doesn't count connections.
 fn visit<R: Net<Listener = StdListener, Stream = TcpStream>>(
     alloc: Global,
     rt: &R,
@@ -158,6 +199,12 @@ fn visit<R: Net<Listener = StdListener, Stream = TcpStream>>(
 ) -> io::Result<(usize, usize)> {
     let mut clients = clients_of(alloc, rt, addr)?;
     let lines = talk(&mut clients)?;
+    let Some(client) = clients.first_mut() else {
+        return Ok((lines, 0));
+    };
+    if !write_large(alloc, client)? || !reads_large(alloc, client)? {
+        return Ok((lines, 0));
+    }
     if counts {
         return Ok((lines, CLIENTS));
     }

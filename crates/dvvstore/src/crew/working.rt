@@ -188,7 +188,7 @@ impl<'a, B: Room + Spot, L> Floor<'a, B, L> {
         shared: &'a Shared<'a, B, L>,
     ) -> Floor<'a, B, L>
         requires first { cluster.now.first ≡ B.first }
-        ensures cluster { result.cluster ≡ cluster }
+        ensures cluster { result.cluster.now ≡ cluster.now }
     {
         Floor {
             alloc,

@@ -1,4 +1,4 @@
-use Rattle.std.proofs.Common.{◌*◌, ◌+◌, map, refl, vec_len}
+use Rattle.std.proofs.Common.{◌*◌, ◌+◌, ap, map, refl, vec_len}
 use Rattle.cluster_stamps.specs.declared.view.Size.{Size}
 use Rattle.dvvstore.proofs.Over.{kept_over, lost_over}
 use Rattle.dvvstore.proofs.Staying.{refused_so, unserved_so}
@@ -25,12 +25,13 @@ returns-in-Ok-Kept-clause-kept g c =
     let does = g.F.Folder.does in
     let opened = c.in-Ok.opened in
     let did = c.in-Ok.ensures in
-    let spread = c.among.result in
+    let spread = c.among-spread.result in
+    let held = c.in-Ok-held.held in
     let tables = map (λ t. t.listed) c.args.keeping.tables.items in
     let size : Size = record { first = opened.number * 256; vnodes = spread.vnodes; passes = vec_len c.args.keeping.tables + spread.vnodes + 1 } in
     let opens = record { read = did.read; files = did.files; hooks = did.hooks; set = did.settings; next = did.next; above = did.above; minute = did.minute; put = did.put } in
-    kept_over finds does c.args.keeping.minute tables c.args.folder.now c.open.new.folder c.finish.new.folder opened size c.in-Ok-held.held.files.items c.in-Ok-Kept.served c.finish.result
-    opens refl spread.ok.some spread.ok.many c.in-Ok-held.ensures.placed c.in-Ok-Kept.ensures.kept c.in-Ok-Kept.ensures.served c.finish.ensures.says c.finish.ensures.put
+    kept_over finds does c.args.keeping.minute tables c.args.folder.now c.open.new.folder c.finish.new.folder opened size spread.copies held.hooks.items held.files.items c.in-Ok-Kept.served c.finish.result
+    opens refl spread.ok.some spread.ok.many c.among-spread.ensures.copies (ap (λ v. v.items) c.in-Ok-held.ensures.hooks) c.in-Ok-held.ensures.placed c.in-Ok-Kept.ensures.kept c.in-Ok-Kept.ensures.served c.finish.ensures.says c.finish.ensures.put
 
 pub returns-in-Ok-Lost-clause-kept : goal.returns-in-Ok-Lost-clause-kept
 returns-in-Ok-Lost-clause-kept g c =

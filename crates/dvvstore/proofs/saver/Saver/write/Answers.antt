@@ -7,5 +7,5 @@ pub returns-clause-put : goal.returns-clause-put
 returns-clause-put g c =
     let does = g.F.Folder.does in
     let shelf = c.args.self.now.shelf in
-    snapshot_put (AreAllKept does shelf.folder shelf.first c.args.spares.items c.write_vnodes.result.0.items)
-    (IsRestKept g.F.Folder.finds does (shelf.first / 256) shelf.folder c.write_rest.new.self.shelf.folder) c.write_vnodes.result.1 c.write_rest.result c.write_vnodes.ensures.put c.write_rest.ensures.put
+    snapshot_put (AreAllKept does shelf.folder shelf.first c.args.spares.items c.write_vnodes-spares.result.0.items)
+    (IsRestKept g.F.Folder.finds does (shelf.first / 256) shelf.folder c.write_rest.new.self.shelf.folder) c.write_vnodes-spares.result.1 c.write_rest.result c.write_vnodes-spares.ensures.put c.write_rest.ensures.put
