@@ -7,7 +7,9 @@ ghost use Rattle.kept_folder.specs.Settings.{IsSetBy, MayStand, Says, sync_or, t
 
 use crate::limits::SNAPSHOT_INTERVAL_S;
 use crate::lines::number_in;
-use crate::names::{COPIES_WORD, NUMBER_WORD, SNAPSHOT_WORD, SYNC_WORD};
+use crate::names::{
+    COPIES_WORD, NUMBER_WORD, SNAPSHOT_WORD, SYNC_ALWAYS, SYNC_EVERY_SECOND, SYNC_NEVER,
+};
 use kept_file::MAX_NUMBER;
 use ring::MAX_COPIES;
 use std::alloc::{AllocError, Global};
@@ -140,11 +142,14 @@ fn line_in(alloc: Global, bytes: &[u8]) -> Result<Option<Line>, AllocError>
 fn policy_in(bytes: &[u8]) -> Option<SyncPolicy>
     ensures { IfSome result (λ sync. bytes.now ≡ text_of (Line.Sync sync)) }
 {
-    match bytes.strip_prefix(SYNC_WORD.as_bytes())? {
-        b"always\n" => Some(SyncPolicy::Always),
-        b"everysec\n" => Some(SyncPolicy::EverySecond),
-        b"never\n" => Some(SyncPolicy::Never),
-        _ => None,
+    if bytes == SYNC_ALWAYS {
+        Some(SyncPolicy::Always)
+    } else if bytes == SYNC_EVERY_SECOND {
+        Some(SyncPolicy::EverySecond)
+    } else if bytes == SYNC_NEVER {
+        Some(SyncPolicy::Never)
+    } else {
+        None
     }
 }
 
