@@ -42,7 +42,9 @@ KEYS_OF_A_CLIENT = 6
 MOST_SIBLINGS = 8
 COPIES = 1
 PIPED = 40
+PIPED_OF_A_START = 400
 PIPED_BEFORE = 200
+PIPE_REST_SECONDS = 0.01
 BOUND = "the hook is bound"
 
 # Of a key the sets of values of which one stands there; of the hook whether it is bound.
@@ -198,7 +200,9 @@ class Piper(threading.Thread):
             with self.server.client() as client:
                 self.check(client)
                 while not self.is_over:
-                    self.send_some(client)
+                    if len(self.known.new) < PIPED_OF_A_START:
+                        self.send_some(client)
+                    time.sleep(PIPE_REST_SECONDS)
         except OSError:  # the server was stopped or killed
             pass
         except ValueError as error:

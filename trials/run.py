@@ -44,6 +44,7 @@ NAMES = (
     "proxies",
     "kills",
     "log_tails",
+    "log_order",
     "damages",
     "folders",
     "copies",
