@@ -246,7 +246,14 @@ fn keep_over<
         Err(OpenFault::NoMemory) => return Err(Unserved::NoMemory),
         Err(why) => return Err(refused(host.alloc, out, &why)),
     };
-    keep_logged::<Brand, R, N, F, O>(host, folder, opened, shared_prefix::Opened::new(), keeping, out)
+    keep_logged::<Brand, R, N, F, O>(
+        host,
+        folder,
+        opened,
+        shared_prefix::Opened::new(),
+        keeping,
+        out,
+    )
 }
 
 /// The same of a folder that was opened, with a log of what is written, whose list of sheets is new.

@@ -276,7 +276,9 @@ impl LogFolder for SystemFolder<'_> {
         self.look()?;
         let path = self.log_path(number)?;
         done(fs::File::create(self.rt, path.as_str()))?;
-        let opened = fs::OpenOptions::new().append(true).open(self.rt, path.as_str());
+        let opened = fs::OpenOptions::new()
+            .append(true)
+            .open(self.rt, path.as_str());
         let file = done(opened)?;
         self.force_names()?;
         Ok(SystemLog { file })
@@ -288,7 +290,9 @@ impl LogFolder for SystemFolder<'_> {
         let mut bytes = Vec::new(alloc);
         let mut held = done(fs::File::open(self.rt, path.as_str()))?;
         done(held.read_to_end(&mut bytes))?;
-        let opened = fs::OpenOptions::new().append(true).open(self.rt, path.as_str());
+        let opened = fs::OpenOptions::new()
+            .append(true)
+            .open(self.rt, path.as_str());
         let file = done(opened)?;
         Ok((SystemLog { file }, bytes))
     }

@@ -68,7 +68,10 @@ pub fn end_log<F: LogFolder>(
 }
 
 /// A log to which bytes were appended, and which was forced.
-fn forced_with<D: Device + Drop>(mut log: LogFile<D>, bytes: &[u8]) -> Result<LogFile<D>, DeviceFault>
+fn forced_with<D: Device + Drop>(
+    mut log: LogFile<D>,
+    bytes: &[u8],
+) -> Result<LogFile<D>, DeviceFault>
     ensures { IfOk result (λ all. file.forced all ≡ file.appended log ++ bytes.now) }
 {
     log.append(bytes)?;

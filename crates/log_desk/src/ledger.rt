@@ -1,6 +1,7 @@
 //! What workers and who makes snapshots have of a log.
 
 ghost use Rattle.std.specs.Prelude.{IfSome};
+ghost use Rattle.log_writer.specs.declared.sheet.Sheet.{Sheet as OneSheet};
 
 use crate::page::{Page, PageFault};
 use log_writer::Sheet;
@@ -15,10 +16,10 @@ pub trait Ledger {
     type Kept: Drop;
 
     /// A sheet was put down, and this is its receipt.
-    ghost put: { Self → Sheet → Self::Receipt → Type 0 };
+    ghost put: { Self → OneSheet → Self.Receipt → Type 0 };
 
     /// That shows that the sheet of a receipt is kept, as is set.
-    ghost shows: { Self → Self::Receipt → Self::Kept → Type 0 };
+    ghost shows: { Self → Self.Receipt → Self.Kept → Type 0 };
 
     /// Whether anything is kept here: else nothing is to be put down.
     fn is_kept(&self) -> bool;

@@ -4,8 +4,8 @@ use crate::crew::aside::Aside;
 use crate::limits::MAX_NAME_BYTES;
 use cluster::Room;
 use cluster_peers::ClusterPeers;
-use key_state::{Key, KeyState};
 use kept_hooks::{Notes, Requests, Writes};
+use key_state::{Key, KeyState};
 use log_desk::Ledger;
 use log_writer::Sheet;
 use peers::{Answer, Peers};
@@ -201,7 +201,11 @@ impl<'a, B: Room, R: Wait, L: Ledger> Scribe<'a, B, R, L> {
             return Noted::Nothing;
         }
         self.read_noted();
-        if self.is_put_down() && self.is_covered() && self.are_hooks_kept() && self.is_sheet_kept(now) {
+        if self.is_put_down()
+            && self.is_covered()
+            && self.are_hooks_kept()
+            && self.is_sheet_kept(now)
+        {
             self.notes.unlogged.forget();
             Noted::Kept
         } else {
@@ -268,7 +272,11 @@ impl<'a, B: Room, R: Wait, L: Ledger> Scribe<'a, B, R, L> {
         if self.records == 0 {
             return true;
         }
-        match self.desk.ledger.put_down(self.rt, &self.sheet, self.records) {
+        match self
+            .desk
+            .ledger
+            .put_down(self.rt, &self.sheet, self.records)
+        {
             Some(receipt) => {
                 self.receipt = Some(receipt);
                 self.sheet.bytes.clear();

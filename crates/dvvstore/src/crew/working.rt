@@ -312,7 +312,9 @@ fn work_once<B: Room + Spot, K: Backend, R: Wait, L>(
 /// How long a worker waits at the most for something to do: not at all in its last turn or where it has noted more since, and not for long
 /// where it also accepts and follows, or rests, or something that it noted isn't kept yet.
 fn longest_wait(orders: &Orders, is_alone: bool, shift: &Shift<'_>) -> Duration {
-    let millis = if shift.is_last || (shift.kept == Kept::Kept && shift.post.inlet.unlogged.is_noted()) {
+    let millis = if shift.is_last
+        || (shift.kept == Kept::Kept && shift.post.inlet.unlogged.is_noted())
+    {
         0
     } else if is_alone || !orders.may_read || shift.kept == Kept::NotYet {
         WORKER_NAP_MS
@@ -448,7 +450,14 @@ fn visit<B: Room + Spot, H: Hooks + HookChanges + Drop, R: Wait, L: Ledger>(
     let readers = ClusterPeers::new(alloc, rt, floor.cluster, aside.pass);
     let mut scribe = Scribe::new(alloc, &notes, shared.desk(), places, readers);
     let mut recorder = Recorder::new(store, &shared.requests, &notes, rt);
-    stay::<B, ClusterPeers<'_, B, R>, H, _, R, L>(rt, floor, post, worker, &mut recorder, &mut scribe);
+    stay::<B, ClusterPeers<'_, B, R>, H, _, R, L>(
+        rt,
+        floor,
+        post,
+        worker,
+        &mut recorder,
+        &mut scribe,
+    );
     shared.give_aside(rt, place, scribe.into_aside());
     let Recorder { store, .. } = recorder;
     let Store { peers, .. } = store;
