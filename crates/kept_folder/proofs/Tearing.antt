@@ -9,17 +9,19 @@ use Rattle.log_tail.specs.Fronts.{AreInFront, HasAllInFront}
 use Rattle.kept_file.specs.Files.{end_key, end_of}
 use Rattle.kept_folder.specs.Ends.{IsEndedBehind}
 
-pub ended_behind : (bytes seen front end forced : List ℕ) (records : List Record) (count : ℕ) → seen ≡ bytes → AreInFront bytes records count → HasAllInFront bytes records
-    → front ≡ take count seen → forced ≡ front ++ end → AreSpelledBy (end_of 0 (length records) ∷ []) end → IsEndedBehind bytes forced
-ended_behind bytes seen front end forced records count is are all so appended spelled = (
-  records,
-  count,
-  are,
-  all,
-  subst (λ (xs : List ℕ). AreSpelledBy (records ++ end_of 0 (length records) ∷ []) xs)
-      (sym (appended ∙ ap (λ (f : List ℕ). f ++ end) (so ∙ ap (λ (s : List ℕ). take count s) is)))
-      (both_spelled records (end_of 0 (length records) ∷ []) (take count bytes) end are.spelled spelled),
-)
+pub ended_behind : (bytes held seen front end shown forced : List ℕ) (records : List Record) (count many : ℕ) → seen ≡ bytes → held ≡ bytes → AreInFront held records count → HasAllInFront held records
+    → front ≡ take count seen → forced ≡ front ++ shown → shown ≡ end → many ≡ length records → AreSpelledBy (end_of 0 many ∷ []) end → IsEndedBehind bytes forced
+ended_behind bytes held seen front end shown forced records count many is same are all so appended shows as_many ended =
+    let here = subst (λ (h : List ℕ). AreInFront h records count) same are in
+    let spelled = subst (λ (n : ℕ). AreSpelledBy (end_of 0 n ∷ []) end) as_many ended in (
+      records,
+      count,
+      here,
+      subst (λ (h : List ℕ). HasAllInFront h records) same all,
+      subst (λ (xs : List ℕ). AreSpelledBy (records ++ end_of 0 (length records) ∷ []) xs)
+          (sym (appended ∙ ap (λ (f : List ℕ). f ++ shown) (so ∙ ap (λ (s : List ℕ). take count s) is) ∙ ap (λ (e : List ℕ). take count bytes ++ e) shows))
+          (both_spelled records (end_of 0 (length records) ∷ []) (take count bytes) end here.spelled spelled),
+    )
 
 -- the record of the key, the place and the state that end a file
 pub end_spelled : (key : Key) (count : ℕ) (state : State) (bytes : List ℕ) → key ≡ end_key → state ≡ empty → AreSpelledBy (record_of key 0 count state ∷ []) bytes → AreSpelledBy (end_of 0 count ∷ []) bytes

@@ -16,6 +16,12 @@ use std::alloc::{AllocError, Global};
 /// Bucket and key of the record that ends a file.
 const END: &[u8] = b"end";
 
+impl From<DeviceFault> for FileFault {
+    fn from(_: DeviceFault) -> FileFault {
+        FileFault::Refused
+    }
+}
+
 /// The logs of a folder, by their numbers.
 pub trait LogFolder {
     /// The file of a log, which is appended to and forced.
@@ -61,17 +67,12 @@ pub fn end_log<F: LogFolder>(
     let (device, bytes) = folder.open_log(alloc, number)?;
     let (records, taken) = records_in_front(alloc, &bytes)?;
     let end = end_bytes(alloc, records.len() as u64)?;
-    match forced_with(LogFile::new(device, taken), &end) {
-        Ok(log) => Ok(log),
-        Err(_) => Err(FileFault::Refused),
-    }
+    let log = forced_with(LogFile::new(device, taken), &end)?;
+    Ok(log)
 }
 
 /// A log to which bytes were appended, and which was forced.
-fn forced_with<D: Device + Drop>(
-    mut log: LogFile<D>,
-    bytes: &[u8],
-) -> Result<LogFile<D>, DeviceFault>
+fn forced_with<D: Device + Drop>(mut log: LogFile<D>, bytes: &[u8]) -> Result<LogFile<D>, FileFault>
     ensures { IfOk result (λ all. file.forced all ≡ file.appended log ++ bytes.now) }
 {
     log.append(bytes)?;
