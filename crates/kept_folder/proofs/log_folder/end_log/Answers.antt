@@ -1,4 +1,4 @@
-use Rattle.std.proofs.Common.{refl, rules}
+use Rattle.std.proofs.Common.{rules}
 use Rattle.kept_folder.proofs.Tearing.{ended_behind}
 use Rattle.kept_folder.proofs.log_folder.end_log.Goals as goal
 

@@ -1,4 +1,3 @@
-use Rattle.std.proofs.Common.{subst}
 use Rattle.kept_folder.specs.Settings.{Says}
 use Rattle.kept_folder.proofs.Setting.{copies_added, first_of, number_added, right_copies, says_as, snapshot_added, sync_added}
 use Rattle.kept_folder.proofs.settings.Written.add.Goals as goal
