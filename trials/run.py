@@ -45,6 +45,8 @@ NAMES = (
     "container",
     "proxies",
     "kills",
+    "log_tails",
+    "log_order",
     "damages",
     "folders",
     "copies",

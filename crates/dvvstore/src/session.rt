@@ -1,6 +1,6 @@
 //! The store of several workers, from its opening to what is left of it.
 
-ghost use Rattle.std.specs.Prelude.{◌≡◌, ◌+◌, ◌<◌, ◌≤◌, ◌^◌, [], All, IfOk, OnOk, map, reverse, vec_len};
+ghost use Rattle.std.specs.Prelude.{◌≡◌, ◌+◌, ◌*◌, ◌<◌, ◌≤◌, ◌^◌, [], All, IfOk, OnOk, map, reverse, vec_len};
 ghost use Rattle.hook_sharing.specs.Lists.{list_of};
 ghost use Rattle.cluster_stamps.specs.Rule.{newcomer};
 ghost use Rattle.cluster_vnode.specs.Calls.{pass_view};
@@ -24,6 +24,7 @@ use hook_sharing::{Ground, HookReader, Installer, Opening, Rack, WorkerHooks, op
 use kept_folder::Folder;
 use kept_hooks::Requests;
 use kept_restore::Loader;
+use log_desk::Pages;
 use quorum::Hooking;
 use shared_prefix::Naming;
 use std::alloc::{AllocError, Global};
@@ -70,6 +71,8 @@ struct Vnodes<B: Room + Spot> {
     cluster: Cluster<B>,
     /// The passes of workers.
     passes: Vec<Pass<B>>,
+    /// The passes by which they read what they wrote.
+    asides: Vec<Pass<B>>,
     /// Who follows what workers do.
     lookout: Lookout<B>,
     /// With what they have begun.
@@ -101,18 +104,19 @@ pub fn live<
     N: Net<Listener = TcpListener, Stream = TcpStream>,
     F: Folder + Copy + Send + Sync,
     O: Write,
+    L: Pages + Sync,
 >(
     host: &Host<'_, R>,
     making: Making,
     tables: Vec<Table>,
-    stay: Stay<'_, N, F>,
+    stay: Stay<'_, N, F, L>,
     out: &mut O,
 ) -> Result<Left, Unbegun>
     requires some { 0 < vec_len tables }
     requires few { vec_len tables ≤ 16 }
     ensures told { Tells stay.entry.door result (O.contents out.old) (O.contents out.new) }
     ensures kept { LeavesFolded stay.entry.folder making.first making.spread.vnodes stay.entry.held.files.items result }
-    ensures served { LeavesServed Finds Names Takes making.spread.vnodes (BeginOver Takes (record { first = making.first; vnodes = making.spread.vnodes; passes = vec_len tables + making.spread.vnodes + 1 }) making.spread.copies (map (λ t. t.listed) tables.items) (hooks_for stay.entry.folder stay.entry.held.hooks.items)) result }
+    ensures served { LeavesServed Finds Names Takes making.spread.vnodes (BeginOver Takes (record { first = making.first; vnodes = making.spread.vnodes; passes = 2 * vec_len tables + making.spread.vnodes + 1 }) making.spread.copies (map (λ t. t.listed) tables.items) (hooks_for stay.entry.folder stay.entry.held.hooks.items)) result }
 {
     let stay = stay.folded(host.alloc, making.first / VNODES_PER_NUMBER)?;
     over_files(host, making, tables, stay, out)
@@ -124,18 +128,19 @@ fn over_files<
     N: Net<Listener = TcpListener, Stream = TcpStream>,
     F: Folder + Copy + Send + Sync,
     O: Write,
+    L: Pages + Sync,
 >(
     host: &Host<'_, R>,
     making: Making,
     tables: Vec<Table>,
-    stay: Stay<'_, N, F>,
+    stay: Stay<'_, N, F, L>,
     out: &mut O,
 ) -> Result<Left, Unbegun>
     requires some { 0 < vec_len tables }
     requires few { vec_len tables ≤ 16 }
     ensures told { Tells stay.entry.door result (O.contents out.old) (O.contents out.new) }
     ensures kept { Leaves stay.entry.folder making.first making.spread.vnodes stay.entry.held.files.items result }
-    ensures served { LeavesServed Finds Names Takes making.spread.vnodes (BeginOver Takes (record { first = making.first; vnodes = making.spread.vnodes; passes = vec_len tables + making.spread.vnodes + 1 }) making.spread.copies (map (λ t. t.listed) tables.items) (hooks_for stay.entry.folder stay.entry.held.hooks.items)) result }
+    ensures served { LeavesServed Finds Names Takes making.spread.vnodes (BeginOver Takes (record { first = making.first; vnodes = making.spread.vnodes; passes = 2 * vec_len tables + making.spread.vnodes + 1 }) making.spread.copies (map (λ t. t.listed) tables.items) (hooks_for stay.entry.folder stay.entry.held.hooks.items)) result }
 {
     let size = Size {
         first: making.first,
@@ -149,7 +154,7 @@ fn over_files<
                 stamps,
                 card,
             };
-            over_stamps::<Brand, R, N, F, O>(host, undrawn, tables, stay, out)
+            over_stamps::<Brand, R, N, F, O, L>(host, undrawn, tables, stay, out)
         }
         Err(_) => Err(Unbegun::NoMemory),
     }
@@ -162,22 +167,23 @@ fn over_stamps<
     N: Net<Listener = TcpListener, Stream = TcpStream>,
     F: Folder + Copy + Send + Sync,
     O: Write,
+    L: Pages + Sync,
 >(
     host: &Host<'_, R>,
     undrawn: Undrawn,
     tables: Vec<Table>,
-    stay: Stay<'_, N, F>,
+    stay: Stay<'_, N, F, L>,
     out: &mut O,
 ) -> Result<Left, Unbegun>
     requires some { 0 < vec_len tables }
     requires few { vec_len tables ≤ 16 }
     requires table { (undrawn.stamps.table.shared.table_id ≡ B.table) × (undrawn.card.table_id ≡ B.table) }
-    requires size { undrawn.stamps.table.shared.key ≡ record { first = undrawn.making.first; vnodes = undrawn.making.spread.vnodes; passes = vec_len tables + undrawn.making.spread.vnodes + 1 } }
+    requires size { undrawn.stamps.table.shared.key ≡ record { first = undrawn.making.first; vnodes = undrawn.making.spread.vnodes; passes = 2 * vec_len tables + undrawn.making.spread.vnodes + 1 } }
     requires spot { undrawn.making.first ≡ B.first }
     requires card { undrawn.card.me ≡ (newcomer undrawn.stamps.table.shared.key, []) }
     ensures told { Tells stay.entry.door result (O.contents out.old) (O.contents out.new) }
     ensures kept { Leaves stay.entry.folder undrawn.making.first undrawn.making.spread.vnodes stay.entry.held.files.items result }
-    ensures served { LeavesServed Finds Names Takes undrawn.making.spread.vnodes (BeginOver Takes (record { first = undrawn.making.first; vnodes = undrawn.making.spread.vnodes; passes = vec_len tables + undrawn.making.spread.vnodes + 1 }) undrawn.making.spread.copies (map (λ t. t.listed) tables.items) (hooks_for stay.entry.folder stay.entry.held.hooks.items)) result }
+    ensures served { LeavesServed Finds Names Takes undrawn.making.spread.vnodes (BeginOver Takes (record { first = undrawn.making.first; vnodes = undrawn.making.spread.vnodes; passes = 2 * vec_len tables + undrawn.making.spread.vnodes + 1 }) undrawn.making.spread.copies (map (λ t. t.listed) tables.items) (hooks_for stay.entry.folder stay.entry.held.hooks.items)) result }
 {
     let Making { seed, spread, .. } = undrawn.making;
     let vnodes = begin(host, undrawn, tables.len(), &stay)?;
@@ -187,27 +193,29 @@ fn over_stamps<
         spread,
     };
     let opening = Opening::seeded(seed.build_hasher());
-    over_cluster::<B, Brand, R, N, F, O>(host, parts, opening, stay, out)
+    over_cluster::<B, Brand, R, N, F, O, L>(host, parts, opening, stay, out)
 }
 
 /// Opens vnodes for so many workers, and has them take over what a folder held, each by a pass of its own, by which it is read for
 /// snapshots later, while that is followed by the last of the passes. Where no folder keeps the store they begin with nothing.
-fn begin<B: Room + Spot + Send + Sync, R: Threads + Wait + Sync, N, F: Copy>(
+fn begin<B: Room + Spot + Send + Sync, R: Threads + Wait + Sync, N, F: Copy, L>(
     host: &Host<'_, R>,
     undrawn: Undrawn,
     workers: usize,
-    stay: &Stay<'_, N, F>,
+    stay: &Stay<'_, N, F, L>,
 ) -> Result<Vnodes<B>, Unbegun>
     requires few { workers ≤ 16 }
     requires table { (undrawn.stamps.table.shared.table_id ≡ B.table) × (undrawn.card.table_id ≡ B.table) }
-    requires size { undrawn.stamps.table.shared.key ≡ record { first = undrawn.making.first; vnodes = undrawn.making.spread.vnodes; passes = workers + undrawn.making.spread.vnodes + 1 } }
+    requires size { undrawn.stamps.table.shared.key ≡ record { first = undrawn.making.first; vnodes = undrawn.making.spread.vnodes; passes = 2 * workers + undrawn.making.spread.vnodes + 1 } }
     requires spot { undrawn.making.first ≡ B.first }
     requires card { undrawn.card.me ≡ (newcomer undrawn.stamps.table.shared.key, []) }
     ensures first { IfOk result (λ vnodes. vnodes.cluster.first ≡ undrawn.making.first) }
     ensures vnodes { IfOk result (λ vnodes. vnodes.cluster.vnodes ≡ undrawn.making.spread.vnodes) }
-    ensures all { IfOk result (λ vnodes. vnodes.cluster.passes ≡ workers + undrawn.making.spread.vnodes + 1) }
+    ensures all { IfOk result (λ vnodes. vnodes.cluster.passes ≡ 2 * workers + undrawn.making.spread.vnodes + 1) }
     ensures spares { IfOk result (λ vnodes. vec_len vnodes.begun.spares ≡ undrawn.making.spread.vnodes) }
     ensures passes { IfOk result (λ vnodes. vec_len vnodes.passes ≡ workers) }
+    ensures asides { IfOk result (λ vnodes. vec_len vnodes.asides ≡ workers) }
+    ensures fresh { IfOk result (λ vnodes. All (λ p. p ≡ pass_view 0 []) vnodes.asides.items) }
     ensures begun { IfOk result (λ vnodes. HasBegunWith stay.now.folder undrawn.making.first undrawn.making.spread.vnodes stay.now.held.files.items vnodes.begun) }
     ensures numbers { IfOk result (λ vnodes. vnodes.begun.first + 16 ≤ 2 ^ 32) }
 {
@@ -246,20 +254,22 @@ fn begin<B: Room + Spot + Send + Sync, R: Threads + Wait + Sync, N, F: Copy>(
         fronts,
         first,
     };
+    let asides = taken_of(alloc, &mut passes, workers)?;
     Ok(Vnodes {
         cluster,
         passes,
+        asides,
         lookout,
         begun,
     })
 }
 
-/// How many passes there are: one for each worker, one for each vnode, by which that takes over what it begins with, and the follower's.
+/// How many passes there are: two for each worker, by one of which it reads what it wrote, one for each vnode, by which that takes over what it begins with, and the follower's.
 fn passes_for(workers: usize, spread: Spread) -> usize
     requires { workers ≤ 16 }
-    ensures { result ≡ workers + spread.vnodes + 1 }
+    ensures { result ≡ 2 * workers + spread.vnodes + 1 }
 {
-    workers + spread.vnodes as usize + 1
+    2 * workers + spread.vnodes as usize + 1
 }
 
 /// A loader for each of so many vnodes, with the last of some passes.
@@ -284,6 +294,28 @@ fn loaders_of<B: Room>(
     Ok(loaders)
 }
 
+/// So many of the last of some passes, which are taken from them.
+fn taken_of<B: Room>(
+    alloc: Global,
+    passes: &mut Vec<Pass<B>>,
+    count: usize,
+) -> Result<Vec<Pass<B>>, AllocError>
+    requires some { count ≤ vec_len passes.old }
+    requires fresh { All (λ p. p ≡ pass_view 0 []) passes.old.items }
+    ensures left { OnOk result (vec_len passes.new + count ≡ vec_len passes.old) }
+    ensures fresh { IfOk result (λ taken. All (λ p. p ≡ pass_view 0 []) taken.items) }
+    ensures count { IfOk result (λ taken. vec_len taken ≡ count) }
+{
+    let mut taken = Vec::new(alloc);
+    for _ in 0..count {
+        let Some(pass) = passes.pop() else {
+            unreachable!();
+        };
+        taken.push(pass)?;
+    }
+    Ok(taken)
+}
+
 /// The passes of loaders.
 fn passes_of<B: Room>(alloc: Global, loaders: Vec<Loader<B>>) -> Result<Vec<Pass<B>>, AllocError>
     ensures same { IfOk result (λ passes. passes.items ≡ map (λ l. l.pass) loaders.items) }
@@ -304,18 +336,21 @@ fn over_cluster<
     N: Net<Listener = TcpListener, Stream = TcpStream>,
     F: Folder + Copy + Send + Sync,
     O: Write,
+    L: Pages + Sync,
 >(
     host: &Host<'_, R>,
     parts: Parts<B>,
     opening: Opening,
-    stay: Stay<'_, N, F>,
+    stay: Stay<'_, N, F, L>,
     out: &mut O,
 ) -> Result<Left, Unbegun>
     requires list { list_of opening ≡ J.book }
     requires some { 0 < vec_len parts.tables }
     requires few { vec_len parts.tables ≤ 16 }
     requires each { vec_len parts.vnodes.passes ≡ vec_len parts.tables }
-    requires all { parts.vnodes.cluster.passes ≡ vec_len parts.tables + parts.vnodes.cluster.vnodes + 1 }
+    requires asides { vec_len parts.vnodes.asides ≡ vec_len parts.tables }
+    requires fresh { All (λ p. p ≡ pass_view 0 []) parts.vnodes.asides.items }
+    requires all { parts.vnodes.cluster.passes ≡ 2 * vec_len parts.tables + parts.vnodes.cluster.vnodes + 1 }
     requires spares { vec_len parts.vnodes.begun.spares ≡ parts.vnodes.cluster.vnodes }
     requires spot { parts.vnodes.cluster.first ≡ B.first }
     requires vnodes { parts.vnodes.cluster.vnodes ≡ parts.spread.vnodes }
@@ -337,18 +372,21 @@ fn over_ground<
     N: Net<Listener = TcpListener, Stream = TcpStream>,
     F: Folder + Copy + Send + Sync,
     O: Write,
+    L: Pages + Sync,
 >(
     host: &Host<'_, R>,
     parts: Parts<B>,
     ground: Ground<J, T>,
-    stay: Stay<'_, N, F>,
+    stay: Stay<'_, N, F, L>,
     out: &mut O,
 ) -> Result<Left, Unbegun>
     requires ground { (ground.front ≡ []) × (T.state ground.first ≡ []) × (T.state ground.second ≡ []) }
     requires some { 0 < vec_len parts.tables }
     requires few { vec_len parts.tables ≤ 16 }
     requires each { vec_len parts.vnodes.passes ≡ vec_len parts.tables }
-    requires all { parts.vnodes.cluster.passes ≡ vec_len parts.tables + parts.vnodes.cluster.vnodes + 1 }
+    requires asides { vec_len parts.vnodes.asides ≡ vec_len parts.tables }
+    requires fresh { All (λ p. p ≡ pass_view 0 []) parts.vnodes.asides.items }
+    requires all { parts.vnodes.cluster.passes ≡ 2 * vec_len parts.tables + parts.vnodes.cluster.vnodes + 1 }
     requires spares { vec_len parts.vnodes.begun.spares ≡ parts.vnodes.cluster.vnodes }
     requires spot { parts.vnodes.cluster.first ≡ B.first }
     requires vnodes { parts.vnodes.cluster.vnodes ≡ parts.spread.vnodes }
@@ -381,17 +419,20 @@ fn over_hooks<
     N: Net<Listener = TcpListener, Stream = TcpStream>,
     F: Folder + Copy + Send + Sync,
     O: Write,
+    L: Pages + Sync,
 >(
     host: &Host<'r, R>,
     parts: Parts<B>,
     hooked: Hooked<'_, J, T, &'r R>,
-    stay: Stay<'_, N, F>,
+    stay: Stay<'_, N, F, L>,
     out: &mut O,
 ) -> Result<Left, Unbegun>
     requires readers { vec_len hooked.readers ≡ vec_len parts.tables }
     requires some { 0 < vec_len parts.tables }
     requires each { vec_len parts.vnodes.passes ≡ vec_len parts.tables }
-    requires all { parts.vnodes.cluster.passes ≡ vec_len parts.tables + parts.vnodes.cluster.vnodes + 1 }
+    requires asides { vec_len parts.vnodes.asides ≡ vec_len parts.tables }
+    requires fresh { All (λ p. p ≡ pass_view 0 []) parts.vnodes.asides.items }
+    requires all { parts.vnodes.cluster.passes ≡ 2 * vec_len parts.tables + parts.vnodes.cluster.vnodes + 1 }
     requires spares { vec_len parts.vnodes.begun.spares ≡ parts.vnodes.cluster.vnodes }
     requires spot { parts.vnodes.cluster.first ≡ B.first }
     requires vnodes { parts.vnodes.cluster.vnodes ≡ parts.spread.vnodes }
@@ -409,6 +450,7 @@ fn over_hooks<
     let Vnodes {
         cluster,
         passes,
+        asides,
         lookout,
         begun,
     } = vnodes;
@@ -416,6 +458,7 @@ fn over_hooks<
     let staffed = Staffed {
         cluster,
         seats,
+        asides,
         lookout,
         begun,
     };

@@ -55,6 +55,15 @@ impl<J: Naming> Written<J> {
         Written { list }
     }
 
+    /// The same once more.
+    pub fn again(&self) -> Written<J>
+        ensures { result ≡ self.now }
+    {
+        Written {
+            list: self.list.again(),
+        }
+    }
+
     /// Whether the sheet of a receipt is among them, and all that were handed over before it.
     pub fn has(&self, receipt: &Receipt<J>) -> bool
         ensures { IsTrue result ↔ IsPrefix receipt.now self.now }
@@ -84,6 +93,15 @@ impl<J: Naming> Forced<J> {
         ensures { result ≡ list }
     {
         Forced { list }
+    }
+
+    /// The same once more.
+    pub fn again(&self) -> Forced<J>
+        ensures { result ≡ self.now }
+    {
+        Forced {
+            list: self.list.again(),
+        }
     }
 
     /// Whether the sheet of a receipt is among them, and all that were handed over before it.

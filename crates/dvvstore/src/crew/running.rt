@@ -5,6 +5,7 @@ ghost use Rattle.audit_cluster.specs.Following.{IsFollowedTo, IsSaidOf};
 ghost use Rattle.dvvstore.specs.Asides.{AllRead, AreGathered, WithAsides};
 ghost use Rattle.dvvstore.specs.Visits.{AfterAnswers, AfterAnswersOf, HaveVisited, begun};
 
+use crate::crew::aside::Aside;
 use crate::crew::signs::Signs;
 use crate::crew::working::{Lookout, Seat, Shared, work_attended};
 use crate::host::Host;
@@ -14,10 +15,11 @@ use cluster::{Cluster, Pass, Room};
 use hook_registry::{HookChanges, Hooks};
 use kept_folder::Folder;
 use kept_hooks::Requests;
+use log_desk::Pages;
 use server_accept::Lobby;
 use server_receipts::laws::{answers_are_by_receipts, answers_are_of_the_run};
 use std::alloc::{AllocError, Global};
-use std::sync::Wait;
+use std::sync::{Mutex, Wait};
 use std::thread;
 use std::thread::Threads;
 
@@ -30,6 +32,8 @@ pub struct Crew<B: Room + Spot, H, F> {
     pub lookout: Lookout<B>,
     /// The passes by which the vnodes have taken over what they began with, and by which snapshots are made.
     pub spares: Vec<Pass<B>>,
+    /// The passes by which workers read what they wrote, one for each.
+    pub asides: Vec<Pass<B>>,
     /// Who makes snapshots, if somebody does.
     pub saver: Option<Saver<F>>,
 }
@@ -39,6 +43,7 @@ pub struct Crew<B: Room + Spot, H, F> {
 struct Back<B: Room + Spot> {
     passes: Vec<Pass<B>>,
     spares: Vec<Pass<B>>,
+    asides: Vec<Pass<B>>,
     watch: Watch<B>,
     requests: Requests,
 }
@@ -54,11 +59,13 @@ fn run<
     H: Hooks + HookChanges + Send + Drop,
     F: Folder + Copy + Send + Sync,
     R: Threads + Wait + Sync,
+    L: Pages + Sync,
 >(
     host: &Host<'_, R>,
     cluster: &Cluster<B>,
     crew: Crew<B, H, F>,
     lobby: &Lobby,
+    ledger: &L,
 ) -> Result<Back<B>, AllocError>
     requires first { cluster.now.first ≡ B.first }
     requires few { vec_len crew.spares ≤ 16 }
@@ -71,17 +78,18 @@ fn run<
         seats,
         lookout,
         spares,
+        asides,
         saver,
     } = crew;
     let (alloc, rt) = (host.alloc, host.rt);
-    let shared = Shared::new(lookout);
+    let shared = Shared::new(lookout, slots_of(alloc, asides)?, ledger);
     let (lent, both) = (cluster, &shared);
     let (spares, back) = thread::join(
         rt,
         || -> Vec<Pass<B>>
             requires { vec_len spares ≤ 16 }
             ensures { AllRead lent.entry.now.first spares.items result.items × (vec_len result ≡ vec_len spares) }
-        { save_beside(rt, lent, &both.signs(lobby), saver, spares) },
+        { save_beside(rt, lent, &both.signs(lobby), saver, spares, ledger) },
         || -> Result<Vec<Pass<B>>, AllocError>
             requires { lent.now.first ≡ B.first }
             ensures { IfOk result (λ passes. (vec_len passes ≡ vec_len seats) × HaveVisited H.finds H.names H.takes (map (λ s. begun lent.entry.now s.pass s.hooking.hooks s.hooking.table.listed s.placement) seats.items) passes.items) }
@@ -90,11 +98,13 @@ fn run<
     let Shared {
         watch,
         requests,
+        asides,
         ..
     } = shared;
     Ok(Back {
         passes: back?,
         spares,
+        asides: passes_of(alloc, asides)?,
         watch: watch.into_inner(),
         requests: requests.into_inner(),
     })
@@ -102,19 +112,25 @@ fn run<
 
 /// Makes snapshots by spare passes until all workers have ended, if somebody makes them. The passes come back.
 #[tactic(auto, using(crate::proofs::Growing::all_read_same))]
-fn save_beside<B: Room + Send + Sync, F: Folder + Copy + Send + Sync, R: Threads + Wait + Sync>(
+fn save_beside<
+    B: Room + Send + Sync,
+    F: Folder + Copy + Send + Sync,
+    R: Threads + Wait + Sync,
+    L: Pages,
+>(
     rt: &R,
     cluster: &Cluster<B>,
     signs: &Signs<'_>,
     saver: Option<Saver<F>>,
     spares: Vec<Pass<B>>,
+    ledger: &L,
 ) -> Vec<Pass<B>>
     requires few { vec_len spares ≤ 16 }
     ensures read { AllRead cluster.now.first spares.items result.items }
     ensures count { vec_len result ≡ vec_len spares }
 {
     match saver {
-        Some(mut saver) => saver.run(rt, cluster, spares, signs),
+        Some(mut saver) => saver.run(rt, cluster, spares, signs, ledger),
         None => spares,
     }
 }
@@ -142,15 +158,18 @@ pub fn serve<
     H: Hooks + HookChanges + Send + Drop,
     F: Folder + Copy + Send + Sync,
     R: Threads + Wait + Sync,
+    L: Pages + Sync,
 >(
     host: &Host<'_, R>,
     cluster: Cluster<B>,
     crew: Crew<B, H, F>,
     lobby: &Lobby,
     fronts: &[usize],
+    ledger: &L,
 ) -> Result<Served, AllocError>
     requires first { cluster.first ≡ B.first }
-    requires all { cluster.passes ≤ vec_len crew.seats + vec_len crew.spares + 1 }
+    requires all { cluster.passes ≤ vec_len crew.seats + vec_len crew.spares + vec_len crew.asides + 1 }
+    requires fresh { All (λ p. p ≡ pass_view 0 []) crew.asides.items }
     requires few { vec_len crew.spares ≤ 16 }
     // Each answer of a worker tells of the journals that are left, by the receipts of its own calls.
     ensures kept { IfOk result (λ served. AfterAnswers H.finds H.names H.takes (map (λ s. begun cluster s.pass s.hooking.hooks s.hooking.table.listed s.placement) crew.seats.items) served.closed.vnodes.items (λ told. AreGathered cluster.first told crew.spares.items served.closed.vnodes.items) × (vec_len served.closed.vnodes ≡ cluster.vnodes)) }
@@ -161,12 +180,14 @@ pub fn serve<
     let Back {
         passes,
         spares,
+        asides,
         watch,
         requests,
-    } = run(host, &cluster, crew, lobby)?;
+    } = run(host, &cluster, crew, lobby, ledger)?;
     answers_are_by_receipts::<H>();
     answers_are_of_the_run::<H>();
     let passes = all_passes(passes, spares)?;
+    let passes = all_passes(passes, asides)?;
     let closed = close_watched(host.alloc, cluster, passes, watch, fronts)?;
     Ok(Served { closed, requests })
 }
@@ -180,5 +201,31 @@ fn all_passes<B: Room>(
     ensures count { IfOk result (λ all. vec_len all ≡ vec_len passes + vec_len spares) }
 {
     passes.append(&mut spares)?;
+    Ok(passes)
+}
+
+/// A place for each of some passes, where its worker finds it.
+fn slots_of<B: Room>(
+    alloc: Global,
+    asides: Vec<Pass<B>>,
+) -> Result<Vec<Mutex<Option<Aside<B>>>>, AllocError> {
+    let mut slots = Vec::new(alloc);
+    for pass in asides {
+        slots.push(Mutex::new(Some(Aside { pass })))?;
+    }
+    Ok(slots)
+}
+
+/// The passes that workers left there.
+fn passes_of<B: Room>(
+    alloc: Global,
+    slots: Vec<Mutex<Option<Aside<B>>>>,
+) -> Result<Vec<Pass<B>>, AllocError> {
+    let mut passes = Vec::new(alloc);
+    for slot in slots {
+        if let Some(aside) = slot.into_inner() {
+            passes.push(aside.pass)?;
+        }
+    }
     Ok(passes)
 }

@@ -8,8 +8,10 @@ ghost use Rattle.server_sockets.specs.Work.{Stays, Works};
 ghost use Rattle.server_store.specs.View.{StoreView};
 ghost use Rattle.dvvstore.specs.Visits.{HasLed, HasVisited, HaveVisited, Leads, begun};
 
+use crate::crew::aside::Aside;
 use crate::crew::pace::{Next, Pace, keeps_snapshots_waiting};
 use crate::crew::reporter::{Aloud, Reporter};
+use crate::crew::scribe::{Desk, Filing, Noted as Kept, Scribe, TurnNotes};
 use crate::crew::signs::{Signs, Until};
 use crate::host::Host;
 use crate::limits::{FOLLOWED_PIECE_STAMPS, WORKER_NAP_MS, WORKER_WAIT_MS};
@@ -19,6 +21,7 @@ use cluster_peers::ClusterPeers;
 use hook_registry::{HookChanges, Hooks};
 use http_connection::Backend;
 use kept_hooks::{Recorder, Requests, Writes};
+use log_desk::Ledger;
 use peers::Peers;
 use quorum::Hooking;
 use ring::Placement;
@@ -72,7 +75,13 @@ pub struct Lookout<B: Room + Spot> {
 
 /// What the workers and the thread that follows share.
 #[derive(Drop)]
-pub(crate) struct Shared<B: Room + Spot> {
+pub(crate) struct Shared<'a, B: Room + Spot, L> {
+    /// Where what workers note is kept.
+    ledger: &'a L,
+    /// Who has this alone writes the file of the requests that make hooks what they are.
+    filing: Mutex<Filing>,
+    /// The passes by which workers read what they wrote, in the order of their places: each its own, while it doesn't work.
+    pub(crate) asides: Vec<Mutex<Option<Aside<B>>>>,
     /// The follower of what they do.
     pub(crate) watch: Mutex<Watch<B>>,
     /// Where requests that change the hooks are written down.
@@ -95,8 +104,12 @@ pub(crate) struct Shared<B: Room + Spot> {
     writes: Writes,
 }
 
-impl<B: Room + Spot> Shared<B> {
-    pub(crate) fn new(lookout: Lookout<B>) -> Shared<B> {
+impl<'a, B: Room + Spot, L> Shared<'a, B, L> {
+    pub(crate) fn new(
+        lookout: Lookout<B>,
+        asides: Vec<Mutex<Option<Aside<B>>>>,
+        ledger: &'a L,
+    ) -> Shared<'a, B, L> {
         let Lookout {
             watch,
             requests,
@@ -104,6 +117,9 @@ impl<B: Room + Spot> Shared<B> {
         } = lookout;
         let writes = Writes::new(&requests);
         Shared {
+            ledger,
+            filing: Mutex::new(Filing),
+            asides,
             watch: Mutex::new(watch),
             requests: Mutex::new(requests),
             err,
@@ -118,7 +134,7 @@ impl<B: Room + Spot> Shared<B> {
     }
 
     /// What somebody looks at who does something beside the workers of a lobby.
-    pub(crate) fn signs<'a>(&'a self, lobby: &'a Lobby) -> Signs<'a> {
+    pub(crate) fn signs<'b>(&'b self, lobby: &'b Lobby) -> Signs<'b> {
         Signs {
             lobby,
             requests: &self.requests,
@@ -126,29 +142,51 @@ impl<B: Room + Spot> Shared<B> {
             bell: &self.bell,
             writes: &self.writes,
             trailing: &self.is_trailing,
+            filing: &self.filing,
             until: Until::Stop,
+        }
+    }
+
+    /// Takes the pass by which the worker at a place reads what it wrote, if it is there.
+    fn take_aside<R: Wait>(&self, rt: &R, place: usize) -> Option<Aside<B>> {
+        self.asides.get(place)?.lock(rt).take()
+    }
+
+    /// Hands it back.
+    fn give_aside<R: Wait>(&self, rt: &R, place: usize, aside: Aside<B>) {
+        if let Some(slot) = self.asides.get(place) {
+            *slot.lock(rt) = Some(aside);
+        }
+    }
+
+    /// Where what workers noted is kept.
+    fn desk(&self) -> Desk<'_, L> {
+        Desk {
+            ledger: self.ledger,
+            requests: &self.requests,
+            filing: &self.filing,
         }
     }
 }
 
 /// Where workers work: the vnodes that they call, and what they share.
 #[derive(Drop)]
-struct Floor<'a, B: Room + Spot> {
+struct Floor<'a, B: Room + Spot, L> {
     alloc: Global,
     cluster: &'a Cluster<B>,
     lobby: &'a Lobby,
-    shared: &'a Shared<B>,
+    shared: &'a Shared<'a, B, L>,
     ghost first: { cluster.now.first ≡ B.first },
 }
 
-impl<'a, B: Room + Spot> Floor<'a, B> {
+impl<'a, B: Room + Spot, L> Floor<'a, B, L> {
     /// That of some vnodes, whose identifiers begin where those begin that are followed.
     pub(crate) fn new(
         alloc: Global,
         cluster: &'a Cluster<B>,
         lobby: &'a Lobby,
-        shared: &'a Shared<B>,
-    ) -> Floor<'a, B>
+        shared: &'a Shared<'a, B, L>,
+    ) -> Floor<'a, B, L>
         requires first { cluster.now.first ≡ B.first }
         ensures cluster { result.cluster.now ≡ cluster.now }
     {
@@ -163,9 +201,9 @@ impl<'a, B: Room + Spot> Floor<'a, B> {
 
 /// Has the vnodes hand out what they did, and follows so many stamps of it. Answers when the next turn is. Workers rest from then on, or no
 /// longer, as the pace says, and so do those who make snapshots.
-fn follow<B: Room + Spot, R: Wait>(
+fn follow<B: Room + Spot, R: Wait, L>(
     rt: &R,
-    floor: &Floor<'_, B>,
+    floor: &Floor<'_, B, L>,
     pace: &mut Pace,
     stamps: u64,
 ) -> Next {
@@ -186,7 +224,8 @@ fn follow<B: Room + Spot, R: Wait>(
 }
 
 /// Hands out the connections that come, and follows what workers do, turn by turn, until all workers have ended.
-fn attend<B: Room + Spot, R: Wait>(rt: &R, floor: &Floor<'_, B>) {
+fn attend<B: Room + Spot, R: Wait, L: Ledger>(rt: &R, floor: &Floor<'_, B, L>) {
+    let mut timer = Timer::new();
     floor.shared.is_followed.store(true, SeqCst);
     let mut pace = Pace::new();
     let mut next = Next::Later;
@@ -196,6 +235,7 @@ fn attend<B: Room + Spot, R: Wait>(rt: &R, floor: &Floor<'_, B>) {
         }
         floor.lobby.accept(rt, next.pause());
         next = follow(rt, floor, &mut pace, FOLLOWED_PIECE_STAMPS);
+        floor.shared.ledger.force_due(rt, timer.now());
     }
 }
 
@@ -217,6 +257,8 @@ struct Shift<'a> {
     pace: Pace,
     /// Whether its next turn may be its last.
     is_last: bool,
+    /// What came of keeping what it noted last.
+    kept: Kept,
 }
 
 /// What a turn of a worker came to.
@@ -230,9 +272,9 @@ struct Worked {
 
 /// One turn of a worker over a store. It goes on until no more connections come and all have ended, or it is told to end at once. Where no
 /// thread has begun that accepts and follows, it does that, too.
-fn work_once<B: Room + Spot, K: Backend, R: Wait>(
+fn work_once<B: Room + Spot, K: Backend, R: Wait, L>(
     rt: &R,
-    floor: &Floor<'_, B>,
+    floor: &Floor<'_, B, L>,
     worker: &mut Worker,
     store: &mut K,
     shift: &mut Shift<'_>,
@@ -247,7 +289,7 @@ fn work_once<B: Room + Spot, K: Backend, R: Wait>(
         may_read: !floor.shared.is_behind.load(SeqCst),
         stance: ending.stance(),
     };
-    let most = longest_wait(&orders, is_alone, shift.is_last);
+    let most = longest_wait(&orders, is_alone, shift);
     let turned = worker.turn(rt, &post.inlet, store, &orders, most);
     post.note_turn();
     if is_alone {
@@ -267,12 +309,14 @@ fn work_once<B: Room + Spot, K: Backend, R: Wait>(
     }
 }
 
-/// How long a worker waits at the most for something to do: not at all in its last turn, and not for long where it also accepts and
-/// follows, or rests.
-fn longest_wait(orders: &Orders, is_alone: bool, is_last: bool) -> Duration {
-    let millis = if is_last {
+/// How long a worker waits at the most for something to do: not at all in its last turn or where it has noted more since, and not for long
+/// where it also accepts and follows, or rests, or something that it noted isn't kept yet.
+fn longest_wait(orders: &Orders, is_alone: bool, shift: &Shift<'_>) -> Duration {
+    let millis = if shift.is_last
+        || (shift.kept == Kept::Kept && shift.post.inlet.unlogged.is_noted())
+    {
         0
-    } else if is_alone || !orders.may_read {
+    } else if is_alone || !orders.may_read || shift.kept == Kept::NotYet {
         WORKER_NAP_MS
     } else {
         WORKER_WAIT_MS
@@ -303,13 +347,36 @@ fn tell_troubles<P: Peers, H: Hooks + HookChanges, K: NotingBackend<P, H>, R: Wa
     }
 }
 
-/// One turn of a worker over a store, behind which it lets a connection go where it is asked to and tells what went wrong. Whether it goes
-/// on.
-fn take_turn<B: Room + Spot, P: Peers, H: Hooks + HookChanges, K: NotingBackend<P, H>, R: Wait>(
-    rt: &R,
-    floor: &Floor<'_, B>,
+/// Has what a worker noted in a turn be kept, and then tells the answers that waited for it.
+fn keep_turn<B: Room, K: Backend, R: Wait, L: Ledger>(
+    scribe: &mut Scribe<'_, B, R, L>,
     worker: &mut Worker,
     store: &mut K,
+    shift: &mut Shift<'_>,
+)
+    ensures works { Works K.gives K.copies worker.old worker.new store.old store.new }
+{
+    shift.kept = scribe.keep(shift.timer.now());
+    if shift.kept == Kept::Kept {
+        worker.release(store);
+    }
+}
+
+/// One turn of a worker over a store, behind which what it noted is kept and it lets a connection go where it is asked to and tells what went wrong. Whether it goes
+/// on.
+fn take_turn<
+    B: Room + Spot,
+    P: Peers,
+    H: Hooks + HookChanges,
+    K: NotingBackend<P, H>,
+    R: Wait,
+    L: Ledger,
+>(
+    rt: &R,
+    floor: &Floor<'_, B, L>,
+    worker: &mut Worker,
+    store: &mut K,
+    scribe: &mut Scribe<'_, B, R, L>,
     shift: &mut Shift<'_>,
 ) -> bool
     ensures leads { (start : StoreView P H)
@@ -317,18 +384,27 @@ fn take_turn<B: Room + Spot, P: Peers, H: Hooks + HookChanges, K: NotingBackend<
         → Leads (GivesUnnoted P.happens H.finds H.names H.takes) (λ s. copies_in s.placement) start worker.new (unnoted (K.shows store.new)) }
 {
     let worked = work_once(rt, floor, worker, store, shift);
+    keep_turn(scribe, worker, store, shift);
     shed_if_asked(shift.post, worker);
     tell_troubles::<P, H, K, R>(rt, &floor.shared.reporter, store, worked);
     worked.goes_on
 }
 
 /// Has a worker, to which no connection came before, answer its connections over a store, turn by turn, until it ends.
-fn stay<B: Room + Spot, P: Peers, H: Hooks + HookChanges, K: NotingBackend<P, H>, R: Wait>(
+fn stay<
+    B: Room + Spot,
+    P: Peers,
+    H: Hooks + HookChanges,
+    K: NotingBackend<P, H>,
+    R: Wait,
+    L: Ledger,
+>(
     rt: &R,
-    floor: &Floor<'_, B>,
+    floor: &Floor<'_, B, L>,
     post: &Post,
     mut worker: Worker,
     store: &mut K,
+    scribe: &mut Scribe<'_, B, R, L>,
 )
     ensures led { HasHadNone worker → HasLed (GivesUnnoted P.happens H.finds H.names H.takes) (λ s. copies_in s.placement) (unnoted (K.shows store.old)) (unnoted (K.shows store.new)) }
 {
@@ -337,9 +413,10 @@ fn stay<B: Room + Spot, P: Peers, H: Hooks + HookChanges, K: NotingBackend<P, H>
         timer: Timer::new(),
         pace: Pace::new(),
         is_last: false,
+        kept: Kept::Nothing,
     };
     for _ in rt.forever() {
-        if !take_turn::<B, P, H, K, R>(rt, floor, &mut worker, store, &mut shift) {
+        if !take_turn::<B, P, H, K, R, L>(rt, floor, &mut worker, store, scribe, &mut shift) {
             break;
         }
     }
@@ -347,12 +424,13 @@ fn stay<B: Room + Spot, P: Peers, H: Hooks + HookChanges, K: NotingBackend<P, H>
 
 /// Has a worker, to which no connection came before, answer its connections until it ends, over the vnodes of the floor, which are called
 /// by a seat's pass. The pass is handed back.
-fn visit<B: Room + Spot, H: Hooks + HookChanges + Drop, R: Wait>(
+fn visit<B: Room + Spot, H: Hooks + HookChanges + Drop, R: Wait, L: Ledger>(
     rt: &R,
-    floor: &Floor<'_, B>,
+    floor: &Floor<'_, B, L>,
     post: &Post,
     worker: Worker,
     seat: Seat<B, H>,
+    aside: Aside<B>,
 ) -> Pass<B>
     ensures visited { HasHadNone worker → HasVisited H.finds H.names H.takes (begun floor.now.cluster.now seat.pass seat.hooking.hooks seat.hooking.table.listed seat.placement) result }
 {
@@ -360,14 +438,27 @@ fn visit<B: Room + Spot, H: Hooks + HookChanges + Drop, R: Wait>(
         pass,
         hooking,
         placement,
-        ..
+        place,
     } = seat;
+    let places = Placement::by_digest(placement.vnodes(), placement.copies());
     exchanges_are_by_a_pass::<ClusterPeers<'_, B, R>, H>();
     let peers = ClusterPeers::new(floor.alloc, rt, floor.cluster, pass);
     let store = Store::new(floor.alloc, peers, hooking, placement);
     let shared = floor.shared;
-    let mut recorder = Recorder::new(store, &shared.requests, &shared.writes, rt);
-    stay::<B, ClusterPeers<'_, B, R>, H, _, R>(rt, floor, post, worker, &mut recorder);
+    let (alloc, unlogged) = (floor.alloc, &post.inlet.unlogged);
+    let notes = TurnNotes::new(alloc, rt, shared.ledger.is_kept(), &shared.writes, unlogged);
+    let readers = ClusterPeers::new(alloc, rt, floor.cluster, aside.pass);
+    let mut scribe = Scribe::new(alloc, &notes, shared.desk(), places, readers);
+    let mut recorder = Recorder::new(store, &shared.requests, &notes, rt);
+    stay::<B, ClusterPeers<'_, B, R>, H, _, R, L>(
+        rt,
+        floor,
+        post,
+        worker,
+        &mut recorder,
+        &mut scribe,
+    );
+    shared.give_aside(rt, place, scribe.into_aside());
     let Recorder { store, .. } = recorder;
     let Store { peers, .. } = store;
     peers.into_pass()
@@ -375,9 +466,9 @@ fn visit<B: Room + Spot, H: Hooks + HookChanges + Drop, R: Wait>(
 
 /// Has the worker at the seat's place answer its connections until it ends, over the vnodes of the floor, which are called by the seat's
 /// pass. The pass is handed back.
-fn work<B: Room + Spot, H: Hooks + HookChanges + Drop, R: Wait>(
+fn work<B: Room + Spot, H: Hooks + HookChanges + Drop, R: Wait, L: Ledger>(
     rt: &R,
-    floor: &Floor<'_, B>,
+    floor: &Floor<'_, B, L>,
     seat: Seat<B, H>,
 ) -> Pass<B>
     ensures visited { HasVisited H.finds H.names H.takes (begun floor.now.cluster.now seat.pass seat.hooking.hooks seat.hooking.table.listed seat.placement) result }
@@ -388,8 +479,11 @@ fn work<B: Room + Spot, H: Hooks + HookChanges + Drop, R: Wait>(
     let Some(worker) = post.take_worker(rt) else {
         return seat.leave();
     };
+    let Some(aside) = floor.shared.take_aside(rt, seat.place) else {
+        return seat.leave();
+    };
     post.inlet.begin();
-    let pass = visit(rt, floor, post, worker, seat);
+    let pass = visit(rt, floor, post, worker, seat, aside);
     post.inlet.end();
     pass
 }
@@ -400,12 +494,13 @@ fn work_all<
     B: Room + Spot + Send + Sync,
     H: Hooks + HookChanges + Send + Drop,
     R: Threads + Wait + Sync,
+    L: Ledger + Sync,
 >(
     host: &Host<'_, R>,
     cluster: &Cluster<B>,
     seats: Vec<Seat<B, H>>,
     lobby: &Lobby,
-    shared: &Shared<B>,
+    shared: &Shared<'_, B, L>,
 ) -> Result<Vec<Pass<B>>, AllocError>
     requires first { cluster.now.first ≡ B.first }
     ensures count { IfOk result (λ passes. vec_len passes ≡ vec_len seats) }
@@ -432,12 +527,13 @@ pub(crate) fn work_attended<
     B: Room + Spot + Send + Sync,
     H: Hooks + HookChanges + Send + Drop,
     R: Threads + Wait + Sync,
+    L: Ledger + Sync,
 >(
     host: &Host<'_, R>,
     cluster: &Cluster<B>,
     seats: Vec<Seat<B, H>>,
     lobby: &Lobby,
-    shared: &Shared<B>,
+    shared: &Shared<'_, B, L>,
 ) -> Result<Vec<Pass<B>>, AllocError>
     requires first { cluster.now.first ≡ B.first }
     ensures count { IfOk result (λ passes. vec_len passes ≡ vec_len seats) }
