@@ -1,6 +1,7 @@
 mod Among
 mod Over
 mod Putting
+mod Scribing
 mod SeatSent
 mod Serving
 mod Sent

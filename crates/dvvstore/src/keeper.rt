@@ -1,6 +1,6 @@
 //! A store that a folder keeps, from what it held to what is to be written.
 
-ghost use Rattle.std.specs.Prelude.{◌≡◌, ◌+◌, ◌<◌, ◌≤◌, ◌^◌, IfOk, OnOk, map, vec_len};
+ghost use Rattle.std.specs.Prelude.{◌≡◌, ◌+◌, ◌*◌, ◌<◌, ◌≤◌, ◌^◌, IfOk, OnOk, map, vec_len};
 ghost use Rattle.std.specs.Option.{option_map};
 ghost use Rattle.cluster_stamps.specs.declared.view.Size.{Size};
 ghost use Rattle.kept_fold.specs.Folds.{AreFolded};
@@ -185,8 +185,6 @@ pub struct Staffed<B: Room + Spot, H> {
     pub cluster: Cluster<B>,
     /// The seats.
     pub seats: Vec<Seat<B, H>>,
-    /// The passes by which workers read what they wrote, one for each.
-    pub asides: Vec<Pass<B>>,
     /// Who follows what workers do.
     pub lookout: Lookout<B>,
     /// With what it has begun.
@@ -210,8 +208,7 @@ pub fn live<
     out: &mut O,
 ) -> Result<Left, Unbegun>
     requires some { 0 < vec_len staffed.seats }
-    requires all { staffed.cluster.passes ≤ vec_len staffed.seats + vec_len staffed.begun.spares + vec_len staffed.asides + 1 }
-    requires fresh { All (λ p. p ≡ pass_view 0 []) staffed.asides.items }
+    requires all { staffed.cluster.passes ≤ 2 * vec_len staffed.seats + vec_len staffed.begun.spares + 1 }
     requires few { vec_len staffed.begun.spares ≤ 16 }
     requires spot { staffed.cluster.first ≡ B.first }
     requires begun { HasBegunWith stay.folder staffed.cluster.first staffed.cluster.vnodes stay.held.files.items staffed.begun }
@@ -231,7 +228,6 @@ pub fn live<
     let Staffed {
         cluster,
         mut seats,
-        asides,
         mut lookout,
         begun,
     } = staffed;
@@ -260,7 +256,6 @@ pub fn live<
         seats,
         lookout,
         spares,
-        asides,
         saver: saver_of(host.alloc, folder, settings, first, err),
     };
     loads_stand();

@@ -7,7 +7,7 @@ ghost use Rattle.kept_file.specs.Placed.{ArePlaced};
 ghost use Rattle.dvvstore.specs.Crews.{by_digest};
 ghost use Rattle.shared_prefix.specs.Lists.{book_of};
 ghost use Rattle.dvvstore.specs.Keeping.{ArePutOf, HasEnded, IsRefusal, IsUnkept, Keeps};
-ghost use Rattle.dvvstore.specs.Over.{KeptOver, ended_says};
+ghost use Rattle.dvvstore.specs.Over.{IsOpened, KeptOver, ended_says};
 
 use crate::crew::Served;
 use crate::host::Host;
@@ -274,6 +274,10 @@ fn keep_logged<
     requires list { book_of list ≡ J.book }
     requires some { 0 < vec_len keeping.tables }
     requires few { vec_len keeping.tables ≤ 16 }
+    ensures told { IfOk result (HasKept (O.contents out.old) (O.contents out.new)) }
+    ensures refused { IfErr result (λ why. why ≡ Unserved.Refused → HasRefused (O.contents out.old) (O.contents out.new)) }
+    ensures untold { IfErr result (λ why. why ≡ Unserved.NoMemory → O.contents out.new ≡ O.contents out.old) }
+    ensures kept { (minute : ℕ) (before : F) → IsOpened F.finds F.does minute before opened folder.old → IfOk result (KeptOver F.finds F.does minute (map (λ t. t.listed) keeping.entry.tables.items) before folder.new) }
 {
     let (err, settings, logs) = (keeping.err, opened.held.settings, opened.held.logs);
     tell_cut(err, logs);
@@ -318,6 +322,10 @@ fn keep_opened<
 ) -> Result<Ended<Said>, Unserved>
     requires some { 0 < vec_len keeping.tables }
     requires few { vec_len keeping.tables ≤ 16 }
+    ensures told { IfOk result (HasKept (O.contents out.old) (O.contents out.new)) }
+    ensures refused { IfErr result (λ why. why ≡ Unserved.Refused → HasRefused (O.contents out.old) (O.contents out.new)) }
+    ensures untold { IfErr result (λ why. why ≡ Unserved.NoMemory → O.contents out.new ≡ O.contents out.old) }
+    ensures kept { (minute : ℕ) (before : F) → IsOpened F.finds F.does minute before opened folder.old → IfOk result (KeptOver F.finds F.does minute (map (λ t. t.listed) keeping.entry.tables.items) before folder.new) }
 {
     let Keeping {
         seed,

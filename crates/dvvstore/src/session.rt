@@ -10,6 +10,7 @@ ghost use Rattle.hook_sharing.specs.Taking.{Takes};
 ghost use Rattle.dvvstore.specs.Keeping.{HasBegunWith, Leaves, LeavesFolded, LeavesServed, Tells, hooks_for};
 ghost use Rattle.dvvstore.specs.Visits.{BeginOver};
 
+use crate::crew::aside::{Aside, Passes};
 use crate::crew::{Lookout, Seat, Served};
 use crate::host::Host;
 use crate::keeper::{Begun, Staffed, Stay, Unbegun};
@@ -70,9 +71,7 @@ struct Undrawn {
 struct Vnodes<B: Room + Spot> {
     cluster: Cluster<B>,
     /// The passes of workers.
-    passes: Vec<Pass<B>>,
-    /// The passes by which they read what they wrote.
-    asides: Vec<Pass<B>>,
+    passes: Vec<Passes<B>>,
     /// Who follows what workers do.
     lookout: Lookout<B>,
     /// With what they have begun.
@@ -214,8 +213,6 @@ fn begin<B: Room + Spot + Send + Sync, R: Threads + Wait + Sync, N, F: Copy, L>(
     ensures all { IfOk result (λ vnodes. vnodes.cluster.passes ≡ 2 * workers + undrawn.making.spread.vnodes + 1) }
     ensures spares { IfOk result (λ vnodes. vec_len vnodes.begun.spares ≡ undrawn.making.spread.vnodes) }
     ensures passes { IfOk result (λ vnodes. vec_len vnodes.passes ≡ workers) }
-    ensures asides { IfOk result (λ vnodes. vec_len vnodes.asides ≡ workers) }
-    ensures fresh { IfOk result (λ vnodes. All (λ p. p ≡ pass_view 0 []) vnodes.asides.items) }
     ensures begun { IfOk result (λ vnodes. HasBegunWith stay.now.folder undrawn.making.first undrawn.making.spread.vnodes stay.now.held.files.items vnodes.begun) }
     ensures numbers { IfOk result (λ vnodes. vnodes.begun.first + 16 ≤ 2 ^ 32) }
 {
@@ -254,11 +251,9 @@ fn begin<B: Room + Spot + Send + Sync, R: Threads + Wait + Sync, N, F: Copy, L>(
         fronts,
         first,
     };
-    let asides = taken_of(alloc, &mut passes, workers)?;
     Ok(Vnodes {
         cluster,
-        passes,
-        asides,
+        passes: dealt(alloc, passes, workers)?,
         lookout,
         begun,
     })
@@ -294,26 +289,27 @@ fn loaders_of<B: Room>(
     Ok(loaders)
 }
 
-/// So many of the last of some passes, which are taken from them.
-fn taken_of<B: Room>(
+/// The passes of so many workers: two for each, the last of some that were told nothing yet.
+fn dealt<B: Room>(
     alloc: Global,
-    passes: &mut Vec<Pass<B>>,
-    count: usize,
-) -> Result<Vec<Pass<B>>, AllocError>
-    requires some { count ≤ vec_len passes.old }
-    requires fresh { All (λ p. p ≡ pass_view 0 []) passes.old.items }
-    ensures left { OnOk result (vec_len passes.new + count ≡ vec_len passes.old) }
-    ensures fresh { IfOk result (λ taken. All (λ p. p ≡ pass_view 0 []) taken.items) }
-    ensures count { IfOk result (λ taken. vec_len taken ≡ count) }
+    mut passes: Vec<Pass<B>>,
+    workers: usize,
+) -> Result<Vec<Passes<B>>, AllocError>
+    requires enough { 2 * workers ≤ vec_len passes }
+    requires fresh { All (λ p. p ≡ pass_view 0 []) passes.items }
+    ensures count { IfOk result (λ dealt. vec_len dealt ≡ workers) }
 {
-    let mut taken = Vec::new(alloc);
-    for _ in 0..count {
-        let Some(pass) = passes.pop() else {
+    let mut dealt = Vec::new(alloc);
+    for _dealt in 0..workers {
+        let (Some(pass), Some(aside)) = (passes.pop(), passes.pop()) else {
             unreachable!();
         };
-        taken.push(pass)?;
+        dealt.push(Passes {
+            pass,
+            aside: Aside::new(aside),
+        })?;
     }
-    Ok(taken)
+    Ok(dealt)
 }
 
 /// The passes of loaders.
@@ -348,8 +344,6 @@ fn over_cluster<
     requires some { 0 < vec_len parts.tables }
     requires few { vec_len parts.tables ≤ 16 }
     requires each { vec_len parts.vnodes.passes ≡ vec_len parts.tables }
-    requires asides { vec_len parts.vnodes.asides ≡ vec_len parts.tables }
-    requires fresh { All (λ p. p ≡ pass_view 0 []) parts.vnodes.asides.items }
     requires all { parts.vnodes.cluster.passes ≡ 2 * vec_len parts.tables + parts.vnodes.cluster.vnodes + 1 }
     requires spares { vec_len parts.vnodes.begun.spares ≡ parts.vnodes.cluster.vnodes }
     requires spot { parts.vnodes.cluster.first ≡ B.first }
@@ -384,8 +378,6 @@ fn over_ground<
     requires some { 0 < vec_len parts.tables }
     requires few { vec_len parts.tables ≤ 16 }
     requires each { vec_len parts.vnodes.passes ≡ vec_len parts.tables }
-    requires asides { vec_len parts.vnodes.asides ≡ vec_len parts.tables }
-    requires fresh { All (λ p. p ≡ pass_view 0 []) parts.vnodes.asides.items }
     requires all { parts.vnodes.cluster.passes ≡ 2 * vec_len parts.tables + parts.vnodes.cluster.vnodes + 1 }
     requires spares { vec_len parts.vnodes.begun.spares ≡ parts.vnodes.cluster.vnodes }
     requires spot { parts.vnodes.cluster.first ≡ B.first }
@@ -430,8 +422,6 @@ fn over_hooks<
     requires readers { vec_len hooked.readers ≡ vec_len parts.tables }
     requires some { 0 < vec_len parts.tables }
     requires each { vec_len parts.vnodes.passes ≡ vec_len parts.tables }
-    requires asides { vec_len parts.vnodes.asides ≡ vec_len parts.tables }
-    requires fresh { All (λ p. p ≡ pass_view 0 []) parts.vnodes.asides.items }
     requires all { parts.vnodes.cluster.passes ≡ 2 * vec_len parts.tables + parts.vnodes.cluster.vnodes + 1 }
     requires spares { vec_len parts.vnodes.begun.spares ≡ parts.vnodes.cluster.vnodes }
     requires spot { parts.vnodes.cluster.first ≡ B.first }
@@ -450,7 +440,6 @@ fn over_hooks<
     let Vnodes {
         cluster,
         passes,
-        asides,
         lookout,
         begun,
     } = vnodes;
@@ -458,18 +447,17 @@ fn over_hooks<
     let staffed = Staffed {
         cluster,
         seats,
-        asides,
         lookout,
         begun,
     };
     keeper::live(host, staffed, stay, out)
 }
 
-/// A seat for each pass, with a table and a reader of hooks of its own: the last of those that are left. Keys stand where their digests
-/// say, as they are spread.
+/// A seat for each worker's passes, with a table and a reader of hooks of its own: the last of those that are left. Keys stand where their
+/// digests say, as they are spread.
 fn seats_of<'a, B: Room, J: Naming, T: Rack<J> + Drop, R: Wait + Drop>(
     alloc: Global,
-    passes: Vec<Pass<B>>,
+    passes: Vec<Passes<B>>,
     mut tables: Vec<Table>,
     hooked: Hooked<'a, J, T, R>,
     spread: Spread,
@@ -477,7 +465,7 @@ fn seats_of<'a, B: Room, J: Naming, T: Rack<J> + Drop, R: Wait + Drop>(
     requires each { vec_len passes ≡ vec_len tables }
     requires readers { vec_len hooked.readers ≡ vec_len tables }
     ensures count { IfOk result (λ seats. vec_len seats ≡ vec_len passes) }
-    ensures passes { IfOk result (λ seats. map (λ s. s.pass) seats.items ≡ passes.items) }
+    ensures passes { IfOk result (λ seats. map (λ s. s.pass) seats.items ≡ map (λ p. p.pass) passes.items) }
     ensures tables { IfOk result (λ seats. map (λ s. s.hooking.table) seats.items ≡ reverse tables.items) }
     ensures readers { IfOk result (λ seats. map (λ s. s.hooking.hooks) seats.items ≡ reverse hooked.entry.readers.items) }
     ensures placed { IfOk result (λ seats. AreAllPlaced spread.vnodes spread.copies (map (λ s. s.placement) seats.items)) }
@@ -488,13 +476,15 @@ fn seats_of<'a, B: Room, J: Naming, T: Rack<J> + Drop, R: Wait + Drop>(
         mut readers,
     } = hooked;
     let mut seats = Vec::with_capacity(alloc, passes.len())?;
-    for pass in passes {
+    for worker in passes {
         let (Some(table), Some(reader)) = (tables.pop(), readers.pop()) else {
             unreachable!();
         };
+        let Passes { pass, aside } = worker;
         let hooks = WorkerHooks::new(reader, installer, handle);
         seats.push_reserved(Seat {
             pass,
+            aside,
             hooking: Hooking::new(alloc, hooks, table),
             placement: spread.placement(),
             place: tables.len(),

@@ -1,11 +1,11 @@
 //! A crew at work, from its beginning to what is left of it.
 
-ghost use Rattle.std.specs.Prelude.{◌≡◌, ◌+◌, ◌++◌, ◌≤◌, [], IfOk, map, vec_len};
+ghost use Rattle.std.specs.Prelude.{◌≡◌, ◌+◌, ◌*◌, ◌++◌, ◌≤◌, [], IfOk, map, vec_len};
 ghost use Rattle.audit_cluster.specs.Following.{IsFollowedTo, IsSaidOf};
 ghost use Rattle.dvvstore.specs.Asides.{AllRead, AreGathered, WithAsides};
 ghost use Rattle.dvvstore.specs.Visits.{AfterAnswers, AfterAnswersOf, HaveVisited, begun};
 
-use crate::crew::aside::Aside;
+use crate::crew::aside::Passes;
 use crate::crew::signs::Signs;
 use crate::crew::working::{Lookout, Seat, Shared, work_attended};
 use crate::host::Host;
@@ -19,7 +19,7 @@ use log_desk::Pages;
 use server_accept::Lobby;
 use server_receipts::laws::{answers_are_by_receipts, answers_are_of_the_run};
 use std::alloc::{AllocError, Global};
-use std::sync::{Mutex, Wait};
+use std::sync::Wait;
 use std::thread;
 use std::thread::Threads;
 
@@ -32,8 +32,6 @@ pub struct Crew<B: Room + Spot, H, F> {
     pub lookout: Lookout<B>,
     /// The passes by which the vnodes have taken over what they began with, and by which snapshots are made.
     pub spares: Vec<Pass<B>>,
-    /// The passes by which workers read what they wrote, one for each.
-    pub asides: Vec<Pass<B>>,
     /// Who makes snapshots, if somebody does.
     pub saver: Option<Saver<F>>,
 }
@@ -41,9 +39,8 @@ pub struct Crew<B: Room + Spot, H, F> {
 /// What is left of a crew: the passes of its workers, those of snapshots, and what they shared.
 #[derive(Drop)]
 struct Back<B: Room + Spot> {
-    passes: Vec<Pass<B>>,
+    passes: Vec<Passes<B>>,
     spares: Vec<Pass<B>>,
-    asides: Vec<Pass<B>>,
     watch: Watch<B>,
     requests: Requests,
 }
@@ -71,40 +68,37 @@ fn run<
     requires few { vec_len crew.spares ≤ 16 }
     ensures count { IfOk result (λ left. vec_len left.spares ≡ vec_len crew.spares) }
     ensures passes { IfOk result (λ left. vec_len left.passes ≡ vec_len crew.seats) }
-    ensures visited { IfOk result (λ left. HaveVisited H.finds H.names H.takes (map (λ s. begun cluster.now s.pass s.hooking.hooks s.hooking.table.listed s.placement) crew.seats.items) left.passes.items) }
+    ensures visited { IfOk result (λ left. HaveVisited H.finds H.names H.takes (map (λ s. begun cluster.now s.pass s.hooking.hooks s.hooking.table.listed s.placement) crew.seats.items) (map (λ p. p.pass) left.passes.items)) }
     ensures spares { IfOk result (λ left. AllRead cluster.now.first crew.spares.items left.spares.items) }
 {
     let Crew {
         seats,
         lookout,
         spares,
-        asides,
         saver,
     } = crew;
     let (alloc, rt) = (host.alloc, host.rt);
-    let shared = Shared::new(lookout, slots_of(alloc, asides)?, ledger);
+    let shared = Shared::new(lookout, ledger);
     let (lent, both) = (cluster, &shared);
     let (spares, back) = thread::join(
         rt,
         || -> Vec<Pass<B>>
             requires { vec_len spares ≤ 16 }
             ensures { AllRead lent.entry.now.first spares.items result.items × (vec_len result ≡ vec_len spares) }
-        { save_beside(rt, lent, &both.signs(lobby), saver, spares, ledger) },
-        || -> Result<Vec<Pass<B>>, AllocError>
+        { save_beside(rt, lent, &both.signs(lobby), saver, spares, both.ledger) },
+        || -> Result<Vec<Passes<B>>, AllocError>
             requires { lent.now.first ≡ B.first }
-            ensures { IfOk result (λ passes. (vec_len passes ≡ vec_len seats) × HaveVisited H.finds H.names H.takes (map (λ s. begun lent.entry.now s.pass s.hooking.hooks s.hooking.table.listed s.placement) seats.items) passes.items) }
+            ensures { IfOk result (λ passes. (vec_len passes ≡ vec_len seats) × HaveVisited H.finds H.names H.takes (map (λ s. begun lent.entry.now s.pass s.hooking.hooks s.hooking.table.listed s.placement) seats.items) (map (λ p. p.pass) passes.items)) }
         { work_attended(&Host { alloc, rt }, lent, seats, lobby, both) },
     );
     let Shared {
         watch,
         requests,
-        asides,
         ..
     } = shared;
     Ok(Back {
         passes: back?,
         spares,
-        asides: passes_of(alloc, asides)?,
         watch: watch.into_inner(),
         requests: requests.into_inner(),
     })
@@ -147,8 +141,8 @@ pub struct Served {
 /// Has a crew serve a store that has begun with something, so many entries of each vnode, by index, while snapshots are made beside it by
 /// the passes that brought these. Where no fronts are named nothing was there before. Once all workers have ended, the cluster is gathered,
 /// and what is left of the journals is followed; the vnodes are handed back, whatever is said of them. In their journals stands what the
-/// workers were told, what these passes had been told before and then of reads, and what the watch was told, which has vnodes hand out and
-/// start again and does nothing else. Each answer of a worker tells of these journals, by the receipts of its own calls: a read's is
+/// workers were told, what these passes had been told before and then of reads, what workers only read, so that the ledger has it, and what
+/// the watch was told, which has vnodes hand out and start again and does nothing else. Each answer of a worker tells of these journals, by the receipts of its own calls: a read's is
 /// current among what they had brought before, and a write's dot is that of its entry, which as many vnodes as were asked for know. Where
 /// the journals are one run from their first entries on, these calls are steps of it, one behind the other.
 ///
@@ -168,8 +162,7 @@ pub fn serve<
     ledger: &L,
 ) -> Result<Served, AllocError>
     requires first { cluster.first ≡ B.first }
-    requires all { cluster.passes ≤ vec_len crew.seats + vec_len crew.spares + vec_len crew.asides + 1 }
-    requires fresh { All (λ p. p ≡ pass_view 0 []) crew.asides.items }
+    requires all { cluster.passes ≤ 2 * vec_len crew.seats + vec_len crew.spares + 1 }
     requires few { vec_len crew.spares ≤ 16 }
     // Each answer of a worker tells of the journals that are left, by the receipts of its own calls.
     ensures kept { IfOk result (λ served. AfterAnswers H.finds H.names H.takes (map (λ s. begun cluster s.pass s.hooking.hooks s.hooking.table.listed s.placement) crew.seats.items) served.closed.vnodes.items (λ told. AreGathered cluster.first told crew.spares.items served.closed.vnodes.items) × (vec_len served.closed.vnodes ≡ cluster.vnodes)) }
@@ -180,52 +173,33 @@ pub fn serve<
     let Back {
         passes,
         spares,
-        asides,
         watch,
         requests,
     } = run(host, &cluster, crew, lobby, ledger)?;
     answers_are_by_receipts::<H>();
     answers_are_of_the_run::<H>();
-    let passes = all_passes(passes, spares)?;
-    let passes = all_passes(passes, asides)?;
+    let passes = all_passes(host.alloc, passes, spares)?;
     let closed = close_watched(host.alloc, cluster, passes, watch, fronts)?;
     Ok(Served { closed, requests })
 }
 
-/// The passes of workers, and behind them spare ones.
+/// All passes: those by which workers called the vnodes, the spare ones, and those by which workers only read.
 fn all_passes<B: Room>(
-    mut passes: Vec<Pass<B>>,
+    alloc: Global,
+    passes: Vec<Passes<B>>,
     mut spares: Vec<Pass<B>>,
 ) -> Result<Vec<Pass<B>>, AllocError>
-    ensures all { IfOk result (λ all. all.items ≡ passes.items ++ spares.items) }
-    ensures count { IfOk result (λ all. vec_len all ≡ vec_len passes + vec_len spares) }
+    ensures all { IfOk result (λ all. all.items ≡ map (λ p. p.pass) passes.items ++ (spares.items ++ map (λ p. p.aside.pass) passes.items)) }
+    ensures count { IfOk result (λ all. vec_len all ≡ 2 * vec_len passes + vec_len spares) }
 {
-    passes.append(&mut spares)?;
-    Ok(passes)
-}
-
-/// A place for each of some passes, where its worker finds it.
-fn slots_of<B: Room>(
-    alloc: Global,
-    asides: Vec<Pass<B>>,
-) -> Result<Vec<Mutex<Option<Aside<B>>>>, AllocError> {
-    let mut slots = Vec::new(alloc);
-    for pass in asides {
-        slots.push(Mutex::new(Some(Aside { pass })))?;
+    let mut all = Vec::new(alloc);
+    let mut asides = Vec::new(alloc);
+    for worker in passes {
+        let Passes { pass, aside } = worker;
+        all.push(pass)?;
+        asides.push(aside.pass)?;
     }
-    Ok(slots)
-}
-
-/// The passes that workers left there.
-fn passes_of<B: Room>(
-    alloc: Global,
-    slots: Vec<Mutex<Option<Aside<B>>>>,
-) -> Result<Vec<Pass<B>>, AllocError> {
-    let mut passes = Vec::new(alloc);
-    for slot in slots {
-        if let Some(aside) = slot.into_inner() {
-            passes.push(aside.pass)?;
-        }
-    }
-    Ok(passes)
+    all.append(&mut spares)?;
+    all.append(&mut asides)?;
+    Ok(all)
 }

@@ -1,14 +1,16 @@
 //! What a worker notes for the log, and how that is kept.
 
-use crate::crew::aside::Aside;
+ghost use Rattle.std.specs.Prelude.{◌≡◌, ◌<◌, ◌≤◌, ◌++◌, ℕ, List, IfSome, None, Some, false, true};
+ghost use Rattle.dvvstore.specs.Scribing.{HasGrown, IsAllKept, IsMoreKept, IsShown};
+
+use crate::crew::aside::{Aside, Reader};
 use crate::limits::MAX_NAME_BYTES;
 use cluster::Room;
-use cluster_peers::ClusterPeers;
 use kept_hooks::{Notes, Requests, Writes};
 use key_state::{Key, KeyState};
 use log_desk::Ledger;
 use log_writer::Sheet;
-use peers::{Answer, Peers};
+use peers::Answer;
 use record_codec::record_bytes;
 use ring::Placement;
 use server_sockets::Unlogged;
@@ -124,11 +126,11 @@ impl<R: Wait> Notes for TurnNotes<'_, R> {
 
 /// What came of keeping what a worker noted.
 #[derive(Clone, Copy, Debug, PartialEq, Eq)]
-pub(crate) enum Noted {
+pub(crate) enum Logged {
     /// Nothing was noted.
     Nothing,
     /// All of it is kept now.
-    Kept,
+    All,
     /// Not all of it is, and it is to be tried again.
     NotYet,
 }
@@ -153,16 +155,17 @@ pub struct Filing;
 pub(crate) struct Scribe<'a, B: Room, R: Wait, L: Ledger> {
     alloc: Global,
     rt: &'a R,
-    desk: Desk<'a, L>,
+    pub(crate) desk: Desk<'a, L>,
     notes: &'a TurnNotes<'a, R>,
     /// Where keys stand.
     placement: Placement,
-    peers: ClusterPeers<'a, B, R>,
+    /// What reads them.
+    reader: Reader<'a, B, R>,
     /// What isn't put down yet, and how many records that is.
-    sheet: Sheet,
-    records: u64,
+    pub(crate) sheet: Sheet,
+    pub(crate) records: u64,
     /// What was put down last, until it is kept.
-    receipt: Option<L::Receipt>,
+    pub(crate) receipt: Option<L::Receipt>,
     /// How many snapshots had begun when a key couldn't be noted or read, until one is whole that began later.
     lost: Option<u64>,
     /// Whether changed hooks aren't kept yet.
@@ -176,7 +179,7 @@ impl<'a, B: Room, R: Wait, L: Ledger> Scribe<'a, B, R, L> {
         notes: &'a TurnNotes<'a, R>,
         desk: Desk<'a, L>,
         placement: Placement,
-        peers: ClusterPeers<'a, B, R>,
+        reader: Reader<'a, B, R>,
     ) -> Scribe<'a, B, R, L> {
         Scribe {
             alloc,
@@ -184,7 +187,7 @@ impl<'a, B: Room, R: Wait, L: Ledger> Scribe<'a, B, R, L> {
             desk,
             notes,
             placement,
-            peers,
+            reader,
             sheet: Sheet {
                 bytes: Vec::new(alloc),
             },
@@ -195,26 +198,37 @@ impl<'a, B: Room, R: Wait, L: Ledger> Scribe<'a, B, R, L> {
         }
     }
 
-    /// Keeps what was noted, at a time in milliseconds.
-    pub(crate) fn keep(&mut self, now: u64) -> Noted {
+    /// Keeps what was noted, at a time in milliseconds. What is told to be kept has been put down, with what turns before couldn't put down,
+    /// and the ledger has shown that it is kept; and nothing is left that was lost, nor hooks that aren't kept.
+    pub(crate) fn keep(&mut self, now: u64) -> Logged
+        ensures kept { result ≡ Logged.All → IsMoreKept L.put L.shows self.old.desk.ledger.now self.old.sheet self.old.records self.old.receipt }
+        ensures all { result ≡ Logged.All → (self.new.records ≡ 0) × (self.new.receipt ≡ None) × (self.new.lost ≡ None) × (self.new.has_hooks ≡ false) }
+    {
         if !self.notes.unlogged.is_noted() {
-            return Noted::Nothing;
+            return Logged::Nothing;
         }
         self.read_noted();
-        if self.is_put_down()
-            && self.is_covered()
-            && self.are_hooks_kept()
-            && self.is_sheet_kept(now)
-        {
+        if self.is_all_kept(now) {
             self.notes.unlogged.forget();
-            Noted::Kept
+            Logged::All
         } else {
-            Noted::NotYet
+            Logged::NotYet
         }
     }
 
+    /// Has what is spelled and what was put down be kept, and whatever else was noted. Whether all of it is.
+    fn is_all_kept(&mut self, now: u64) -> bool
+        ensures kept { result ≡ true → IsAllKept L.put L.shows self.old.desk.ledger.now self.old.sheet self.old.records self.old.receipt }
+        ensures all { result ≡ true → (self.new.records ≡ 0) × (self.new.receipt ≡ None) × (self.new.lost ≡ None) × (self.new.has_hooks ≡ false) }
+    {
+        self.is_put_down() && self.is_covered() && self.are_hooks_kept() && self.is_sheet_kept(now)
+    }
+
     /// Reads what was noted, and spells it.
-    fn read_noted(&mut self) {
+    fn read_noted(&mut self)
+        ensures grown { HasGrown self.old.sheet self.old.records self.new.sheet self.new.records }
+        ensures same { (self.new.receipt ≡ self.old.receipt) × (self.new.desk ≡ self.old.desk) }
+    {
         self.has_hooks = self.notes.has_hooks.swap(false, SeqCst) || self.has_hooks;
         if self.notes.is_short.swap(false, SeqCst) {
             self.lose();
@@ -225,7 +239,10 @@ impl<'a, B: Room, R: Wait, L: Ledger> Scribe<'a, B, R, L> {
     }
 
     /// Reads a key at each vnode of its list, and spells each state that is another than the one before.
-    fn read(&mut self, key: &Key) {
+    fn read(&mut self, key: &Key)
+        ensures grown { HasGrown self.old.sheet self.old.records self.new.sheet self.new.records }
+        ensures same { (self.new.receipt ≡ self.old.receipt) × (self.new.desk ≡ self.old.desk) }
+    {
         if key.bucket().len() > MAX_NAME_BYTES {
             return;
         }
@@ -233,7 +250,7 @@ impl<'a, B: Room, R: Wait, L: Ledger> Scribe<'a, B, R, L> {
         let list = self.placement.preferred(place);
         let mut last = KeyState::new(self.alloc);
         for vnode in list.as_slice() {
-            match self.peers.state_of(*vnode, key) {
+            match self.reader.state_of(*vnode, key) {
                 Ok(answer) => last = self.spell(key, answer, &last),
                 Err(_) => self.lose(),
             }
@@ -241,7 +258,10 @@ impl<'a, B: Room, R: Wait, L: Ledger> Scribe<'a, B, R, L> {
     }
 
     /// Spells what a vnode answered, where that is another state than one before. Answers the state.
-    fn spell(&mut self, key: &Key, answer: Answer, last: &KeyState) -> KeyState {
+    fn spell(&mut self, key: &Key, answer: Answer, last: &KeyState) -> KeyState
+        ensures grown { HasGrown self.old.sheet self.old.records self.new.sheet self.new.records }
+        ensures same { (self.new.receipt ≡ self.old.receipt) × (self.new.desk ≡ self.old.desk) }
+    {
         let Answer { from, at, state } = answer;
         if !state.is_same(last) && !self.is_spelled(key, from, at, &state) {
             self.lose();
@@ -250,7 +270,10 @@ impl<'a, B: Room, R: Wait, L: Ledger> Scribe<'a, B, R, L> {
     }
 
     /// Spells the record of a state behind the others. Whether memory sufficed for it.
-    fn is_spelled(&mut self, key: &Key, from: u32, at: u64, state: &KeyState) -> bool {
+    fn is_spelled(&mut self, key: &Key, from: u32, at: u64, state: &KeyState) -> bool
+        ensures grown { HasGrown self.old.sheet self.old.records self.new.sheet self.new.records }
+        ensures same { (self.new.receipt ≡ self.old.receipt) × (self.new.desk ≡ self.old.desk) }
+    {
         let Ok(bytes) = record_bytes(self.alloc, key, from, at, state) else {
             return false;
         };
@@ -262,13 +285,21 @@ impl<'a, B: Room, R: Wait, L: Ledger> Scribe<'a, B, R, L> {
     }
 
     /// Something can't be noted or read: what is answered waits until a snapshot is whole that begins from now on.
-    fn lose(&mut self) {
+    fn lose(&mut self)
+        ensures grown { (self.new.sheet ≡ self.old.sheet) × (self.new.records ≡ self.old.records) }
+        ensures same { (self.new.receipt ≡ self.old.receipt) × (self.new.desk ≡ self.old.desk) }
+    {
         self.lost = Some(self.desk.ledger.begun());
         self.desk.ledger.want_snapshot();
     }
 
     /// Puts down what is spelled. Whether nothing is left of it.
-    fn is_put_down(&mut self) -> bool {
+    fn is_put_down(&mut self) -> bool
+        ensures none { self.old.records ≡ 0 → self.new.receipt ≡ self.old.receipt }
+        ensures put { result ≡ true → 0 < self.old.records → (receipt : L.Receipt) × L.put self.old.desk.ledger.now self.old.sheet receipt × (self.new.receipt ≡ Some receipt) }
+        ensures all { result ≡ true → self.new.records ≡ 0 }
+        ensures same { self.new.desk ≡ self.old.desk }
+    {
         if self.records == 0 {
             return true;
         }
@@ -288,7 +319,10 @@ impl<'a, B: Room, R: Wait, L: Ledger> Scribe<'a, B, R, L> {
     }
 
     /// Whether what was lost is in a snapshot, if anything was.
-    fn is_covered(&mut self) -> bool {
+    fn is_covered(&mut self) -> bool
+        ensures covered { result ≡ true → self.new.lost ≡ None }
+        ensures same { (self.new.records ≡ self.old.records) × (self.new.receipt ≡ self.old.receipt) × (self.new.desk ≡ self.old.desk) }
+    {
         if let Some(begun) = self.lost {
             if self.desk.ledger.whole() <= begun {
                 return false;
@@ -299,7 +333,10 @@ impl<'a, B: Room, R: Wait, L: Ledger> Scribe<'a, B, R, L> {
     }
 
     /// Has changed hooks be kept, if there are some. Whether they are.
-    fn are_hooks_kept(&mut self) -> bool {
+    fn are_hooks_kept(&mut self) -> bool
+        ensures kept { result ≡ true → self.new.has_hooks ≡ false }
+        ensures same { (self.new.records ≡ self.old.records) × (self.new.receipt ≡ self.old.receipt) × (self.new.lost ≡ self.old.lost) × (self.new.desk ≡ self.old.desk) }
+    {
         if !self.has_hooks {
             return true;
         }
@@ -316,7 +353,11 @@ impl<'a, B: Room, R: Wait, L: Ledger> Scribe<'a, B, R, L> {
     }
 
     /// Has what was put down be kept. Whether it is.
-    fn is_sheet_kept(&mut self, now: u64) -> bool {
+    fn is_sheet_kept(&mut self, now: u64) -> bool
+        ensures shown { result ≡ true → IfSome self.old.receipt (IsShown L.put L.shows self.old.desk.ledger.now) }
+        ensures none { result ≡ true → self.new.receipt ≡ None }
+        ensures same { (self.new.records ≡ self.old.records) × (self.new.lost ≡ self.old.lost) × (self.new.has_hooks ≡ self.old.has_hooks) }
+    {
         let is_kept = match &self.receipt {
             Some(receipt) => self.desk.ledger.keep(self.rt, receipt, now).is_some(),
             None => true,
@@ -329,9 +370,7 @@ impl<'a, B: Room, R: Wait, L: Ledger> Scribe<'a, B, R, L> {
 
     /// The pass, as its calls have left it.
     pub(crate) fn into_aside(self) -> Aside<B> {
-        let Scribe { peers, .. } = self;
-        Aside {
-            pass: peers.into_pass(),
-        }
+        let Scribe { reader, .. } = self;
+        reader.into_aside()
     }
 }

@@ -1,17 +1,18 @@
 //! Workers, and a thread that hands them connections and follows what they do.
 
-ghost use Rattle.std.specs.Prelude.{◌≡◌, IfOk, map, vec_len};
+ghost use Rattle.std.specs.Prelude.{◌≡◌, ◌≢◌, IfOk, map, vec_len};
 ghost use Rattle.server_accept.specs.Waiting.{HasHadNone};
 ghost use Rattle.ring.specs.Places.{copies_in};
 ghost use Rattle.server_one_thread.specs.Passes.{GivesUnnoted, unnoted};
 ghost use Rattle.server_sockets.specs.Work.{Stays, Works};
 ghost use Rattle.server_store.specs.View.{StoreView};
+ghost use Rattle.dvvstore.specs.Scribing.{IsMoreKept};
 ghost use Rattle.dvvstore.specs.Visits.{HasLed, HasVisited, HaveVisited, Leads, begun};
 
-use crate::crew::aside::Aside;
+use crate::crew::aside::{Aside, Passes, Reader};
 use crate::crew::pace::{Next, Pace, keeps_snapshots_waiting};
 use crate::crew::reporter::{Aloud, Reporter};
-use crate::crew::scribe::{Desk, Filing, Noted as Kept, Scribe, TurnNotes};
+use crate::crew::scribe::{Desk, Filing, Logged, Scribe, TurnNotes};
 use crate::crew::signs::{Signs, Until};
 use crate::host::Host;
 use crate::limits::{FOLLOWED_PIECE_STAMPS, WORKER_NAP_MS, WORKER_WAIT_MS};
@@ -44,6 +45,8 @@ use std::time::Duration;
 pub struct Seat<B: Room, H> {
     /// What it calls the vnodes with.
     pub pass: Pass<B>,
+    /// What it reads with what it wrote.
+    pub aside: Aside<B>,
     /// Where it looks hooks up, and the helpers that they may call.
     pub hooking: Hooking<H>,
     /// Where keys stand among the vnodes.
@@ -54,11 +57,11 @@ pub struct Seat<B: Room, H> {
 
 impl<B: Room, H: Drop> Seat<B, H> {
     /// What is left of a seat whose worker doesn't come.
-    fn leave(self) -> Pass<B>
-        ensures pass { result ≡ self.pass }
+    fn leave(self) -> Passes<B>
+        ensures pass { result.pass ≡ self.pass }
     {
-        let Seat { pass, .. } = self;
-        pass
+        let Seat { pass, aside, .. } = self;
+        Passes { pass, aside }
     }
 }
 
@@ -77,11 +80,9 @@ pub struct Lookout<B: Room + Spot> {
 #[derive(Drop)]
 pub(crate) struct Shared<'a, B: Room + Spot, L> {
     /// Where what workers note is kept.
-    ledger: &'a L,
+    pub(crate) ledger: &'a L,
     /// Who has this alone writes the file of the requests that make hooks what they are.
     filing: Mutex<Filing>,
-    /// The passes by which workers read what they wrote, in the order of their places: each its own, while it doesn't work.
-    pub(crate) asides: Vec<Mutex<Option<Aside<B>>>>,
     /// The follower of what they do.
     pub(crate) watch: Mutex<Watch<B>>,
     /// Where requests that change the hooks are written down.
@@ -105,11 +106,7 @@ pub(crate) struct Shared<'a, B: Room + Spot, L> {
 }
 
 impl<'a, B: Room + Spot, L> Shared<'a, B, L> {
-    pub(crate) fn new(
-        lookout: Lookout<B>,
-        asides: Vec<Mutex<Option<Aside<B>>>>,
-        ledger: &'a L,
-    ) -> Shared<'a, B, L> {
+    pub(crate) fn new(lookout: Lookout<B>, ledger: &'a L) -> Shared<'a, B, L> {
         let Lookout {
             watch,
             requests,
@@ -119,7 +116,6 @@ impl<'a, B: Room + Spot, L> Shared<'a, B, L> {
         Shared {
             ledger,
             filing: Mutex::new(Filing),
-            asides,
             watch: Mutex::new(watch),
             requests: Mutex::new(requests),
             err,
@@ -144,18 +140,6 @@ impl<'a, B: Room + Spot, L> Shared<'a, B, L> {
             trailing: &self.is_trailing,
             filing: &self.filing,
             until: Until::Stop,
-        }
-    }
-
-    /// Takes the pass by which the worker at a place reads what it wrote, if it is there.
-    fn take_aside<R: Wait>(&self, rt: &R, place: usize) -> Option<Aside<B>> {
-        self.asides.get(place)?.lock(rt).take()
-    }
-
-    /// Hands it back.
-    fn give_aside<R: Wait>(&self, rt: &R, place: usize, aside: Aside<B>) {
-        if let Some(slot) = self.asides.get(place) {
-            *slot.lock(rt) = Some(aside);
         }
     }
 
@@ -258,7 +242,7 @@ struct Shift<'a> {
     /// Whether its next turn may be its last.
     is_last: bool,
     /// What came of keeping what it noted last.
-    kept: Kept,
+    logged: Logged,
 }
 
 /// What a turn of a worker came to.
@@ -313,10 +297,10 @@ fn work_once<B: Room + Spot, K: Backend, R: Wait, L>(
 /// where it also accepts and follows, or rests, or something that it noted isn't kept yet.
 fn longest_wait(orders: &Orders, is_alone: bool, shift: &Shift<'_>) -> Duration {
     let millis = if shift.is_last
-        || (shift.kept == Kept::Kept && shift.post.inlet.unlogged.is_noted())
+        || (shift.logged == Logged::All && shift.post.inlet.unlogged.is_noted())
     {
         0
-    } else if is_alone || !orders.may_read || shift.kept == Kept::NotYet {
+    } else if is_alone || !orders.may_read || shift.logged == Logged::NotYet {
         WORKER_NAP_MS
     } else {
         WORKER_WAIT_MS
@@ -355,9 +339,12 @@ fn keep_turn<B: Room, K: Backend, R: Wait, L: Ledger>(
     shift: &mut Shift<'_>,
 )
     ensures works { Works K.gives K.copies worker.old worker.new store.old store.new }
+    // Answers that waited go out only where all that was noted is kept.
+    ensures held { shift.new.logged ≢ Logged.All → (worker.new ≡ worker.old) × (store.new ≡ store.old) }
+    ensures kept { shift.new.logged ≡ Logged.All → IsMoreKept L.put L.shows scribe.old.desk.ledger.now scribe.old.sheet scribe.old.records scribe.old.receipt }
 {
-    shift.kept = scribe.keep(shift.timer.now());
-    if shift.kept == Kept::Kept {
+    shift.logged = scribe.keep(shift.timer.now());
+    if shift.logged == Logged::All {
         worker.release(store);
     }
 }
@@ -413,7 +400,7 @@ fn stay<
         timer: Timer::new(),
         pace: Pace::new(),
         is_last: false,
-        kept: Kept::Nothing,
+        logged: Logged::Nothing,
     };
     for _ in rt.forever() {
         if !take_turn::<B, P, H, K, R, L>(rt, floor, &mut worker, store, scribe, &mut shift) {
@@ -430,15 +417,15 @@ fn visit<B: Room + Spot, H: Hooks + HookChanges + Drop, R: Wait, L: Ledger>(
     post: &Post,
     worker: Worker,
     seat: Seat<B, H>,
-    aside: Aside<B>,
-) -> Pass<B>
-    ensures visited { HasHadNone worker → HasVisited H.finds H.names H.takes (begun floor.now.cluster.now seat.pass seat.hooking.hooks seat.hooking.table.listed seat.placement) result }
+) -> Passes<B>
+    ensures visited { HasHadNone worker → HasVisited H.finds H.names H.takes (begun floor.now.cluster.now seat.pass seat.hooking.hooks seat.hooking.table.listed seat.placement) result.pass }
 {
     let Seat {
         pass,
+        aside,
         hooking,
         placement,
-        place,
+        ..
     } = seat;
     let places = Placement::by_digest(placement.vnodes(), placement.copies());
     exchanges_are_by_a_pass::<ClusterPeers<'_, B, R>, H>();
@@ -447,8 +434,8 @@ fn visit<B: Room + Spot, H: Hooks + HookChanges + Drop, R: Wait, L: Ledger>(
     let shared = floor.shared;
     let (alloc, unlogged) = (floor.alloc, &post.inlet.unlogged);
     let notes = TurnNotes::new(alloc, rt, shared.ledger.is_kept(), &shared.writes, unlogged);
-    let readers = ClusterPeers::new(alloc, rt, floor.cluster, aside.pass);
-    let mut scribe = Scribe::new(alloc, &notes, shared.desk(), places, readers);
+    let reader = Reader::new(alloc, rt, floor.cluster, aside);
+    let mut scribe = Scribe::new(alloc, &notes, shared.desk(), places, reader);
     let mut recorder = Recorder::new(store, &shared.requests, &notes, rt);
     stay::<B, ClusterPeers<'_, B, R>, H, _, R, L>(
         rt,
@@ -458,10 +445,12 @@ fn visit<B: Room + Spot, H: Hooks + HookChanges + Drop, R: Wait, L: Ledger>(
         &mut recorder,
         &mut scribe,
     );
-    shared.give_aside(rt, place, scribe.into_aside());
     let Recorder { store, .. } = recorder;
     let Store { peers, .. } = store;
-    peers.into_pass()
+    Passes {
+        pass: peers.into_pass(),
+        aside: scribe.into_aside(),
+    }
 }
 
 /// Has the worker at the seat's place answer its connections until it ends, over the vnodes of the floor, which are called by the seat's
@@ -470,8 +459,8 @@ fn work<B: Room + Spot, H: Hooks + HookChanges + Drop, R: Wait, L: Ledger>(
     rt: &R,
     floor: &Floor<'_, B, L>,
     seat: Seat<B, H>,
-) -> Pass<B>
-    ensures visited { HasVisited H.finds H.names H.takes (begun floor.now.cluster.now seat.pass seat.hooking.hooks seat.hooking.table.listed seat.placement) result }
+) -> Passes<B>
+    ensures visited { HasVisited H.finds H.names H.takes (begun floor.now.cluster.now seat.pass seat.hooking.hooks seat.hooking.table.listed seat.placement) result.pass }
 {
     let Some(post) = floor.lobby.roster.posts.get(seat.place) else {
         return seat.leave();
@@ -479,13 +468,10 @@ fn work<B: Room + Spot, H: Hooks + HookChanges + Drop, R: Wait, L: Ledger>(
     let Some(worker) = post.take_worker(rt) else {
         return seat.leave();
     };
-    let Some(aside) = floor.shared.take_aside(rt, seat.place) else {
-        return seat.leave();
-    };
     post.inlet.begin();
-    let pass = visit(rt, floor, post, worker, seat, aside);
+    let passes = visit(rt, floor, post, worker, seat);
     post.inlet.end();
-    pass
+    passes
 }
 
 /// Has each seat's worker answer its connections, each on a thread of its own, or on the caller's where no thread can be made. That all
@@ -501,18 +487,18 @@ fn work_all<
     seats: Vec<Seat<B, H>>,
     lobby: &Lobby,
     shared: &Shared<'_, B, L>,
-) -> Result<Vec<Pass<B>>, AllocError>
+) -> Result<Vec<Passes<B>>, AllocError>
     requires first { cluster.now.first ≡ B.first }
     ensures count { IfOk result (λ passes. vec_len passes ≡ vec_len seats) }
-    ensures visited { IfOk result (λ passes. HaveVisited H.finds H.names H.takes (map (λ s. begun cluster.now s.pass s.hooking.hooks s.hooking.table.listed s.placement) seats.items) passes.items) }
+    ensures visited { IfOk result (λ passes. HaveVisited H.finds H.names H.takes (map (λ s. begun cluster.now s.pass s.hooking.hooks s.hooking.table.listed s.placement) seats.items) (map (λ p. p.pass) passes.items)) }
 {
     let (alloc, rt) = (host.alloc, host.rt);
     let back = thread::map_vec(
         rt,
         seats,
-        &|seat: Seat<B, H>| -> Pass<B>
+        &|seat: Seat<B, H>| -> Passes<B>
             requires { cluster.now.first ≡ B.first }
-            ensures { HasVisited H.finds H.names H.takes (begun cluster.entry.now seat.pass seat.hooking.hooks seat.hooking.table.listed seat.placement) result }
+            ensures { HasVisited H.finds H.names H.takes (begun cluster.entry.now seat.pass seat.hooking.hooks seat.hooking.table.listed seat.placement) result.pass }
         { work(rt, &Floor::new(alloc, cluster, lobby, shared), seat) },
     );
     shared.over.store(true, SeqCst);
@@ -534,10 +520,10 @@ pub(crate) fn work_attended<
     seats: Vec<Seat<B, H>>,
     lobby: &Lobby,
     shared: &Shared<'_, B, L>,
-) -> Result<Vec<Pass<B>>, AllocError>
+) -> Result<Vec<Passes<B>>, AllocError>
     requires first { cluster.now.first ≡ B.first }
     ensures count { IfOk result (λ passes. vec_len passes ≡ vec_len seats) }
-    ensures visited { IfOk result (λ passes. HaveVisited H.finds H.names H.takes (map (λ s. begun cluster.now s.pass s.hooking.hooks s.hooking.table.listed s.placement) seats.items) passes.items) }
+    ensures visited { IfOk result (λ passes. HaveVisited H.finds H.names H.takes (map (λ s. begun cluster.now s.pass s.hooking.hooks s.hooking.table.listed s.placement) seats.items) (map (λ p. p.pass) passes.items)) }
 {
     let (alloc, rt) = (host.alloc, host.rt);
     let (_, back) = thread::join(
@@ -545,9 +531,9 @@ pub(crate) fn work_attended<
         ||
             requires { cluster.now.first ≡ B.first }
         { attend(rt, &Floor::new(alloc, cluster, lobby, shared)) },
-        || -> Result<Vec<Pass<B>>, AllocError>
+        || -> Result<Vec<Passes<B>>, AllocError>
             requires { cluster.now.first ≡ B.first }
-            ensures { IfOk result (λ passes. (vec_len passes ≡ vec_len seats) × HaveVisited H.finds H.names H.takes (map (λ s. begun cluster.entry.now s.pass s.hooking.hooks s.hooking.table.listed s.placement) seats.items) passes.items) }
+            ensures { IfOk result (λ passes. (vec_len passes ≡ vec_len seats) × HaveVisited H.finds H.names H.takes (map (λ s. begun cluster.entry.now s.pass s.hooking.hooks s.hooking.table.listed s.placement) seats.items) (map (λ p. p.pass) passes.items)) }
         { work_all(&Host { alloc, rt }, cluster, seats, lobby, shared) },
     );
     back

@@ -1,4 +1,4 @@
-use Rattle.std.proofs.Common.{◌∙◌, ◌+◌, ℕ, List, Option, ap, map, refl, subst, vec_len}
+use Rattle.std.proofs.Common.{◌∙◌, ◌*◌, ◌+◌, ℕ, List, Option, ap, map, refl, subst, vec_len}
 use Rattle.hook_readers.specs.Edits.{Finds, Names}
 use Rattle.hook_sharing.specs.Taking.{Takes}
 use Rattle.dvvstore.specs.Keeping.{LeavesServed, Tells, hooks_for}
@@ -19,5 +19,5 @@ returns-clause-kept g c =
 pub returns-clause-served : goal.returns-clause-served
 returns-clause-served g c =
     subst
-    (λ (hooks : Option (List ℕ)). LeavesServed Finds Names Takes c.args.making.spread.vnodes (BeginOver Takes (record { first = c.args.making.first; vnodes = c.args.making.spread.vnodes; passes = vec_len c.args.tables + c.args.making.spread.vnodes + 1 }) c.args.making.spread.copies (map (λ t. t.listed) c.args.tables.items) hooks) c.over_files.result)
+    (λ (hooks : Option (List ℕ)). LeavesServed Finds Names Takes c.args.making.spread.vnodes (BeginOver Takes (record { first = c.args.making.first; vnodes = c.args.making.spread.vnodes; passes = 2 * vec_len c.args.tables + c.args.making.spread.vnodes + 1 }) c.args.making.spread.copies (map (λ t. t.listed) c.args.tables.items) hooks) c.over_files.result)
     (ap (λ f. hooks_for f c.in_ok-stay.stay.held.hooks.items) c.in_ok-stay.ensures.folder ∙ ap (λ v. hooks_for c.args.stay.folder v.items) c.in_ok-stay.ensures.hooks) c.over_files.ensures.served

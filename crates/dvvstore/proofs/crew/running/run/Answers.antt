@@ -10,6 +10,6 @@ use Rattle.dvvstore.proofs.crew.running.run.Goals as goal
 pub join-spares-requires-send-F : goal.join-spares-requires-send-F
 join-spares-requires-send-F g c κs within =
     let cluster = cluster_sync (param 0 g.row.B) g.B.Room c.type_bounds.send-B c.type_bounds.sync-B in
-    let shared = shared_sync (param 0 g.row.B) g.B.Room g.B.Spot c.type_bounds.send-B in
+    let shared = shared_sync _ (param 0 g.row.B) (param 4 g.row.L) g.B.Room g.B.Spot c.type_bounds.send-B c.type_bounds.sync-L in
     param_send 1 _ (arg_send _ no _ (six_send _ _ _ _ _ _ _ (shr_send _ _ _ c.type_bounds.sync-R) (shr_send _ _ _ cluster) (shr_send _ _ _ shared) (shr_send _ _ _ lobby_sync) (saver_send _ c.type_bounds.send-F)
     (spares_alone _ _ c.type_bounds.send-B)))

@@ -1,0 +1,12 @@
+use Rattle.std.proofs.Common.{◌≡◌, length, map, vec_len}
+use Rattle.dvvstore.proofs.crew.running.all_passes.Given as goal
+
+-- those of the workers so far
+abbrev pub invariant-loop-worker : goal.invariant-loop-worker
+invariant-loop-worker g l = record {
+  can : (goal.iterator-loop-worker g).can_next l.worker-iterator × (goal.iterator-loop-worker g).is_finite l.worker-iterator;
+  all : l.all.items ≡ map (λ p. p.pass) l.yielded;
+  asides : l.asides.items ≡ map (λ p. p.aside.pass) l.yielded;
+  many : vec_len l.all ≡ length l.yielded;
+  others : vec_len l.asides ≡ length l.yielded;
+}
