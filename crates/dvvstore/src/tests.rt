@@ -75,7 +75,7 @@ const TALK: [Line; 9] = [
     (
         0,
         READ_B,
-        b"HTTP/1.1 404 Not Found\r\nContent-Type: text/plain\r\nContent-Length: 10\r\nX-Content-Type-Options: nosniff\r\nServer: dvvstore\r\n\r\nnot found\n",
+        b"HTTP/1.1 404 Not Found\r\nContent-Type: text/plain\r\nContent-Length: 10\r\nX-Content-Type-Options: nosniff\r\nServer: dvvstore\r\nVary: Accept\r\n\r\nnot found\n",
     ),
     (
         0,
@@ -85,7 +85,7 @@ const TALK: [Line; 9] = [
     (
         1,
         READ_B,
-        b"HTTP/1.1 200 OK\r\nContent-Type: text/plain\r\nX-Riak-Vclock: AgABAAAHAAAAAAAAAAE=\r\nContent-Length: 1\r\nX-Content-Type-Options: nosniff\r\nServer: dvvstore\r\n\r\na",
+        b"HTTP/1.1 200 OK\r\nContent-Type: text/plain\r\nX-Riak-Vclock: AgABAAAHAAAAAAAAAAE=\r\nContent-Length: 1\r\nX-Content-Type-Options: nosniff\r\nServer: dvvstore\r\nETag: \"458752-1\"\r\nVary: Accept\r\n\r\na",
     ),
     // A hook that rejects is installed and bound by one, and is in force for the others.
     (0, INSTALL, DONE),
@@ -96,7 +96,7 @@ const TALK: [Line; 9] = [
     (
         2,
         READ_C,
-        b"HTTP/1.1 200 OK\r\nContent-Type: text/plain\r\nX-Riak-Vclock: AgABAAAHAAAAAAAAAAE=\r\nContent-Length: 1\r\nX-Content-Type-Options: nosniff\r\nServer: dvvstore\r\n\r\nc",
+        b"HTTP/1.1 200 OK\r\nContent-Type: text/plain\r\nX-Riak-Vclock: AgABAAAHAAAAAAAAAAE=\r\nContent-Length: 1\r\nX-Content-Type-Options: nosniff\r\nServer: dvvstore\r\nETag: \"458752-1\"\r\nVary: Accept\r\n\r\nc",
     ),
     (
         2,
@@ -116,7 +116,7 @@ const WRITTEN_LARGE: &[u8] =
 
 /// What stands before it where it is read.
 const LARGE_HEAD: &[u8] =
-    b"HTTP/1.1 200 OK\r\nContent-Type: text/plain\r\nX-Riak-Vclock: AgABAAAHAAAAAAAAAAI=\r\nContent-Length: 65536\r\nX-Content-Type-Options: nosniff\r\nServer: dvvstore\r\n\r\n";
+    b"HTTP/1.1 200 OK\r\nContent-Type: text/plain\r\nX-Riak-Vclock: AgABAAAHAAAAAAAAAAI=\r\nContent-Length: 65536\r\nX-Content-Type-Options: nosniff\r\nServer: dvvstore\r\nETag: \"458752-2\"\r\nVary: Accept\r\n\r\n";
 
 /// So often it is asked for before an answer is read: the answers are more than the 4 MiB that the system takes at the most.
 const LARGE_READS: usize = 72;

@@ -6,7 +6,7 @@ use Rattle.std.proofs.lemmas.Bool.{or_from, or_parts, ltb-false, leb-false}
 use Rattle.std.proofs.lemmas.List.Folds.{list_any-append}
 use Rattle.http_request.specs.Ask.{IsUnfinished}
 use Rattle.http_request.specs.Head.{IsHeadUnfinished}
-use Rattle.http_request.specs.Limits.{longest_head, longest_body}
+use Rattle.http_request.specs.Limits.{longest_head, longest_coded}
 use Rattle.http_connection.specs.Room.{room}
 use Rattle.http_connection.specs.Pending.{IsPending, Lacks, has_come}
 use Rattle.http_connection.specs.declared.turn.Wanted.{Wanted}
@@ -48,7 +48,7 @@ pub lacks_line : (waits : List ℕ) → IsHeadUnfinished waits → Lacks Line wa
 lacks_line waits head = record { front = waits; line = []; parts = sym (append-nil waits); began = head; goes_on = refl; short = head.short }
 
 -- a body is not
-pub lacks_bytes : (needs : ℕ) (waits : List ℕ) → length waits < needs → needs ≤ longest_head + longest_body
+pub lacks_bytes : (needs : ℕ) (waits : List ℕ) → length waits < needs → needs ≤ longest_head + longest_coded
     → ((more : List ℕ) → length waits + length more < needs → IsUnfinished (waits ++ more)) → Lacks (Bytes needs) waits
 lacks_bytes needs waits few limit still = (omega (arith, limit), few, still)
 

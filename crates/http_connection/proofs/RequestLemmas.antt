@@ -1,13 +1,14 @@
 -- On the first request of the bytes that wait.
 use Rattle.std.proofs.Common.{◌≡◌, ℕ, ◌<◌, ◌≤◌, List, ◌++◌, length, drop, Bool, true, false, None, sym, ap, subst, ◌∙◌, arith, length-append, length-drop, inr}
-use Rattle.std.specs.Prelude.{if◌then◌else◌, nat_le, codes, is_some, Result, Ok, Err, OnErr, IfErr, IsErrAnd}
+use Rattle.std.specs.Prelude.{if◌then◌else◌, nat_le, codes, Result, Ok, Err, OnErr, IfErr, IsErrAnd}
 use Rattle.std.proofs.Common.{Option, Some, refl}
 use Rattle.std.proofs.lemmas.Bool.{leb-true}
-use Rattle.http_request.specs.Limits.{longest_body}
+use Rattle.http_request.specs.Limits.{longest_body, longest_coded}
+use Rattle.http_request.specs.Body.{IsBodyUnfinished}
 use Rattle.http_request.specs.declared.ask.Refusal.{Refusal}
-use Rattle.http_request.specs.declared.ask.Refusal.TheVariants.{Coding, Large}
+use Rattle.http_request.specs.declared.ask.Refusal.TheVariants.{Large}
 use Rattle.httparse.specs.Grammar.{RequestHead, print_request}
-use Rattle.http_request.specs.Fields.{Length, absent, bad, is, length_fault, length_number, length_said, values_of, value_of, pairs_of, framing_fault, expected_of, expected_fault, first_fault, fields_fault, body_length}
+use Rattle.http_request.specs.Fields.{Pair, Length, absent, bad, is, length_fault, length_number, length_said, length_among, values_of, pairs_of, Coding, plain, in_chunks, unknown, coding_among, fault_by_coding, framing_fault, Framing, sized, chunked, framing_by, framing_of, expected_of, expected_fault, first_fault, fields_fault}
 use Rattle.http_request.specs.Ask.{Asks, IsUnfinished, asked_to_go_on, in_head, in_body}
 use Rattle.http_request.specs.declared.ask.Ask.{Ask}
 use Rattle.http_request.specs.declared.ask.Call.{Call}
@@ -98,23 +99,38 @@ length_within method (is n) e = at (nat_le n longest_body) refl e
     at true t none = leb-true n longest_body t
     at false t none = cc
 
--- where the fields have no fault their length has none
-no_coding : (b : Bool) (o : Option Refusal) → (if b then Some Coding else o) ≡ None → o ≡ None
-no_coding true o e = cc
-no_coding false o e = e
+-- where the fields have no fault the length that they say is within the limit
+abbrev IsSmall : Framing → Type 0
+IsSmall (sized n) = n ≤ longest_body
+IsSmall chunked = Unit {0}
+
+no_fault : (minor : ℕ) (method : List ℕ) (pairs : List Pair) (c : Coding) → fault_by_coding minor method pairs c ≡ None → IsSmall (framing_by c (length_among pairs))
+no_fault minor method pairs plain e = length_within method (length_said (values_of (codes "content-length") pairs)) e
+no_fault minor method pairs in_chunks e = tt
+no_fault minor method pairs unknown e = cc
 
 no_first : (o p : Option Refusal) → first_fault o p ≡ None → o ≡ None
 no_first (Some fault) p e = e
 no_first None p e = refl
 
-body_within : (head : RequestHead) → fields_fault head ≡ None → body_length head ≤ longest_body
+body_within : (head : RequestHead) → fields_fault head ≡ None → IsSmall (framing_of head)
 body_within head e =
-    let framed = no_first (framing_fault head.method (pairs_of head)) (expected_fault (expected_of head.minor (pairs_of head))) e in
-    length_within head.method (length_said (values_of (codes "content-length") (pairs_of head)))
-    (no_coding (is_some (value_of (codes "transfer-encoding") (pairs_of head))) (length_fault head.method (length_said (values_of (codes "content-length") (pairs_of head)))) framed)
+    no_fault head.minor head.method (pairs_of head) (coding_among (pairs_of head))
+    (no_first (framing_fault head.minor head.method (pairs_of head)) (expected_fault (expected_of head.minor (pairs_of head))) e)
+
+-- a body that isn't whole is shorter than the longest
+body_short : (f : Framing) (after : List ℕ) → IsSmall f → IsBodyUnfinished f after → length after < longest_coded
+body_short (sized n) after small short = omega (arith, small, short)
+body_short chunked after small un = un.short
 
 -- bytes that end inside a request are fewer than a longest head and a longest body
 pub unfinished_short : (rest : List ℕ) → IsUnfinished rest → length rest < room
 unfinished_short rest (in_head head) = omega (arith, head.short)
 unfinished_short rest (in_body head after begins origin fault here short) =
-    omega (arith, ap length begins.reads.1, length-append (print_request head) after, begins.short, short, body_within head fault)
+    omega (
+      arith,
+      ap length begins.reads.1,
+      length-append (print_request head) after,
+      begins.short,
+      body_short (framing_of head) after (body_within head fault) short,
+    )

@@ -79,7 +79,7 @@ impl Desk {
                 head.clear();
                 Ok(head)
             }
-            None => Ok(Box::new(self.alloc, KnownHead::new())?),
+            None => Ok(Box::new(self.alloc, KnownHead::new(self.alloc))?),
         }
     }
 

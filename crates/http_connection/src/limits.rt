@@ -1,7 +1,7 @@
 //! The limits of connections: what is read and written at once, and what is kept of buffers.
 
 /// The most bytes of a connection that wait to be looked at: the longest request has less.
-pub(crate) const MAX_UNREAD_BYTES: usize = 131_072;
+pub(crate) const MAX_UNREAD_BYTES: usize = 524_288;
 
 /// So many bytes are read at once, at most: those of the largest body.
 pub const READ_PIECE_BYTES: usize = 65_536;

@@ -6,7 +6,7 @@ use Rattle.std.proofs.lemmas.List.{length-reverse}
 use Rattle.httparse.specs.Grammar.{LineEnd, crlf, lf, print_end, Field, print_field, print_blank, print_version, print_section, is_ows, skip_ows, trim_ows, field_value, RequestHead, print_request}
 use Rattle.httparse.specs.Spans.{header_bytes, name_and_value}
 use Rattle.httparse.specs.declared.spans.HeaderSpan.{HeaderSpan}
-use Rattle.http_request.specs.Fields.{Pair, is_named, value_of, pairs_of, expected_by, expected_of, nothing, is_go_on, waits_by, waits_to_go_on, body_length, line_anew, head_anew, without_expectation}
+use Rattle.http_request.specs.Fields.{Pair, is_named, value_of, pairs_of, expected_by, expected_of, nothing, is_go_on, waits_to_go_on, line_anew, head_anew, without_expectation}
 
 -- a line's end has a byte
 end_some : (e : LineEnd) → 0 < length (print_end e)

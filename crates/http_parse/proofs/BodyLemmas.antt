@@ -1,18 +1,17 @@
 -- On a whole request with its body.
-use Rattle.std.proofs.Common.{◌≡◌, ℕ, ◌+◌, ◌<◌, ◌≤◌, List, [], ◌∷◌, ◌++◌, length, take, drop, sym, ap, subst, ◌∙◌, refl, append_assoc, arith, length-drop, None}
-use Rattle.std.specs.Prelude.{if◌then◌else◌, ◌==◌}
+use Rattle.std.proofs.Common.{◌≡◌, ℕ, ◌+◌, ◌<◌, List, [], ◌∷◌, ◌++◌, length, take, drop, sym, ap, subst, ◌∙◌, refl, append_assoc, arith, None}
+use Rattle.std.specs.Prelude.{◌==◌}
 use Rattle.std.proofs.Common.{get_or, suc, zero, Bool, true, false, Option, Some, add-one}
 use Rattle.std.specs.Prelude.{IfSome, IfNone}
 use Rattle.std.specs.List.{slice_split, onto_first, before_first}
 use Rattle.std.proofs.lemmas.List.Sums.{position_or_len_is}
 use Rattle.memchr.specs.Find.{IsFirstByte, is_byte}
 use Rattle.std.proofs.lemmas.List.Splits.{slice_split-cons_yes, slice_split-cons_no}
-use Rattle.std.proofs.lemmas.List.{take-append-drop, length-take-le, drop-drop, take_all}
+use Rattle.std.proofs.lemmas.List.{take-append-drop, drop-drop, take_all}
 use Rattle.httparse.specs.Grammar.{RequestHead}
 use Rattle.httparse.proofs.GrammarLemmas.{ReadsRequest-append}
-use Rattle.http_request.specs.Head.{BeginsHead, IsOriginTarget}
-use Rattle.http_request.specs.Fields.{fields_fault, body_length, is_last, waits_to_go_on, without_zeros}
-use Rattle.http_request.specs.Ask.{Asks, whole, asked_by}
+use Rattle.http_request.specs.Head.{BeginsHead}
+use Rattle.http_request.specs.Fields.{without_zeros}
 
 -- a head at the front stays there, whatever follows
 pub begins_append : (buf : List ℕ) (head : RequestHead) (after more : List ℕ) → BeginsHead buf head after
@@ -30,18 +29,6 @@ body_split buf len n more =
     ap (λ l. l ++ more) (sym (take-append-drop n (drop len buf)))
     ∙ (append_assoc (take n (drop len buf)) (drop n (drop len buf)) more
     ∙ ap (λ l. take n (drop len buf) ++ (l ++ more)) (drop-drop n len buf))
-
--- a request whose body is at hand, whatever follows
-pub whole_with_body : (n : ℕ) (buf : List ℕ) (head : RequestHead) (len : ℕ) (more : List ℕ) → BeginsHead buf head (drop len buf)
-    → IsOriginTarget head.target → fields_fault head ≡ None → waits_to_go_on head ≡ false → len + body_length head ≤ length buf
-    → Asks n (buf ++ more) (asked_by n head (take (body_length head) (drop len buf))) (is_last head)
-    (if is_last head then [] else drop (len + body_length head) buf ++ more)
-whole_with_body n buf head len more begins origin fault here fits =
-    let all = begins_append buf head (drop len buf) more begins in
-    let at : BeginsHead (buf ++ more) head (take (body_length head) (drop len buf) ++ (drop (len + body_length head) buf ++ more)) =
-    subst (BeginsHead (buf ++ more) head) (body_split buf len (body_length head) more) all in
-    whole head (take (body_length head) (drop len buf)) (drop (len + body_length head) buf ++ more) at origin fault here
-    (length-take-le (body_length head) (drop len buf) (omega (arith, fits, length-drop len buf)))
 
 -- a zero in front goes
 pub zeros-step : (b : ℕ) (tail : List ℕ) → b ≡ 48 → without_zeros (b ∷ tail) ≡ without_zeros tail

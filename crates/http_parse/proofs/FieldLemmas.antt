@@ -5,8 +5,8 @@ use Rattle.std.proofs.Common.{Bor, arith, ◌≤◌, ◌<◌, ◌≡◌, ℕ, Bo
 use Rattle.std.specs.Prelude.{◌&&◌, if◌then◌else◌, bytes_eq, codes, is_some}
 use Rattle.std.specs.List.{list_all}
 use Rattle.std.specs.Str.Parse.{digits_value}
-use Rattle.http_request.specs.declared.ask.Refusal.TheVariants.{Coding, Large}
-use Rattle.http_request.specs.Fields.{Pair, is_named, value_of, values_of, is_number, without_zeros, Length, absent, bad, is, length_said, length_fault, framing_fault}
+use Rattle.http_request.specs.declared.ask.Refusal.TheVariants.{Large}
+use Rattle.http_request.specs.Fields.{Pair, is_named, value_of, values_of, is_number, without_zeros, absent, bad, is, length_said, length_fault}
 
 some_is : (x y : List ℕ) → Some x ≡ Some y → x ≡ y
 some_is x y e = search (e, rules)
@@ -46,12 +46,6 @@ module _ (pairs : List Pair) where
   said_some v e =
       let f = first_value (codes "content-length") v pairs e in
       ap length_said f.1 ∙ sym (ap (λ us. if is_number v && list_all (equal_to v) us then is (digits_value 10 v) else bad) f.1)
-
-  -- without a coding the length decides
-  pub fault_by_length : (method : List ℕ) (l : Length) → value_of (codes "transfer-encoding") pairs ≡ None → length_said lengths ≡ l
-      → framing_fault method pairs ≡ length_fault method l
-  fault_by_length method l e s =
-      ap (λ o. if is_some o then Some Coding else length_fault method (length_said lengths)) e ∙ ap (length_fault method) s
 
 -- what is no value copies to none
 pub none_copied : (o : Option (Bor (List ℕ))) (v : Option (List ℕ)) → option_copied o ≡ v → is_some o ≡ false → v ≡ None

@@ -10,6 +10,10 @@ use Rattle.httparse.specs.declared.spans.HeaderSpan.{HeaderSpan}
 use Rattle.httparse.specs.declared.spans.RequestSpans.{RequestSpans}
 use Rattle.httparse.proofs.GrammarLemmas.{ReadsRequest-append}
 use Rattle.http_request.specs.Head.{BeginsHead}
+use Rattle.http1.specs.ChunkedDecoder.{start, run}
+use Rattle.http_request.specs.Limits.{longest_coded}
+use Rattle.http_parse.specs.declared.chunks.CodedBody.{CodedBody}
+use Rattle.http_parse.specs.Reading.{HasRead}
 use Rattle.http_parse.specs.Heads.{StandsAt}
 use Rattle.http_parse.specs.Known.{IsKnownOf}
 use Rattle.http_parse.specs.declared.known.KnownHead.{KnownHead}
@@ -67,11 +71,27 @@ stands_append bytes more lines spans stands =
       ),
     )
 
-known_append : (bytes more : List ℕ) (lines : List HeaderSpan) (o : Option RequestSpans) → IfSome o (StandsAt bytes lines)
-    → IfSome o (StandsAt (bytes ++ more) lines)
-known_append bytes more lines None known = tt
-known_append bytes more lines (Some spans) known = stands_append bytes more lines spans known
+-- what was read of chunks was read too when bytes come behind them
+read_append : (body : CodedBody) (bytes more : List ℕ) → HasRead body bytes → HasRead body (bytes ++ more)
+read_append body bytes more read = (
+  record {
+    within = omega (arith, read.0.within, length-append bytes more);
+    below = read.0.below;
+    runs = ap (run (start longest_coded)) (take-append-le body.read bytes more read.0.within) ∙ read.0.runs;
+    goes = read.0.goes;
+  },
+  read.1,
+)
+
+known_append : (bytes more : List ℕ) (lines : List HeaderSpan) (body : CodedBody) (o : Option RequestSpans)
+    → IfSome o (λ spans. StandsAt bytes lines spans × HasRead body (drop spans.len bytes))
+    → IfSome o (λ spans. StandsAt (bytes ++ more) lines spans × HasRead body (drop spans.len (bytes ++ more)))
+known_append bytes more lines body None known = tt
+known_append bytes more lines body (Some spans) known = (
+  stands_append bytes more lines spans known.0,
+  subst (HasRead body) (sym (drop-append-le spans.len bytes more known.0.0.section.len_fits)) (read_append body (drop spans.len bytes) more known.1),
+)
 
 -- what is known stays known
 pub stays_known : (known : KnownHead) (bytes more : List ℕ) → IsKnownOf known bytes → IsKnownOf known (bytes ++ more)
-stays_known known bytes more is = known_append bytes more known.lines known.spans is
+stays_known known bytes more is = known_append bytes more known.lines known.body known.spans is

@@ -3,7 +3,7 @@ use Rattle.std.specs.Prelude.{◌≡◌, ℕ, ◌+◌, ◌<◌, ◌≤◌, Bool,
 use Rattle.http_request.specs.Ask.{Asks, IsUnfinished, asked_to_go_on}
 use Rattle.http_request.specs.Fits.{FitsAsk}
 use Rattle.http_request.specs.Head.{IsHeadUnfinished}
-use Rattle.http_request.specs.Limits.{longest_head, longest_body}
+use Rattle.http_request.specs.Limits.{longest_head, longest_coded}
 use Rattle.http_parse.specs.declared.request.Asking.{Asking}
 use Rattle.http_parse.specs.declared.request.Asking.TheVariants.{Head, Body, GoOn, First}
 
@@ -17,7 +17,7 @@ next_of ends len bytes more = if ends then [] else drop len bytes ++ more
 abbrev pub Finds : ℕ → List ℕ → Asking → Type 0
 Finds copies bytes Head = IsHeadUnfinished bytes
 Finds copies bytes (Body needs) =
-    IsUnfinished bytes × (length bytes < needs) × (needs ≤ longest_head + longest_body)
+    IsUnfinished bytes × (length bytes < needs) × (needs ≤ longest_head + longest_coded)
     × ((more : List ℕ) → length bytes + length more < needs → IsUnfinished (bytes ++ more))
 Finds copies bytes (GoOn head len) =
     (0 < length head.items) × (length head.items < len) × (len ≤ length bytes)

@@ -8,3 +8,6 @@ pub mod Finds
 pub mod Known
 pub mod One
 pub mod Expects
+pub mod Reading
+pub mod Framed
+pub mod Bodies

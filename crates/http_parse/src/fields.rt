@@ -11,6 +11,8 @@ ghost use Rattle.httparse.specs.Spans.{header_bytes, IsHeaderWithin};
 ghost use Rattle.http_request.specs.Fields as spec;
 ghost use Rattle.http_request.specs.Limits.{longest_body};
 ghost use Rattle.http_parse.specs.Expects.{expected};
+ghost use Rattle.http_parse.specs.Framed.{framing, coding, sized_by, IsSmall, fault_by_length};
+ghost use Rattle.http_parse.specs.declared.fields.Framing.TheVariants.{Chunked};
 ghost use Rattle.http_parse.specs.Firsts.{AreFirst, accepted};
 
 use crate::firsts::Fields;
@@ -230,25 +232,127 @@ fn expected_by(value: &[u8]) -> Expected
     }
 }
 
-/// How many bytes of body follow the head of a request of this version, or what is wrong with its fields.
-pub(crate) fn body_length(
+/// Where the body of a request ends (RFC 9112, 6).
+#[derive(Clone, Copy)]
+pub(crate) enum Framing {
+    /// It has so many bytes.
+    Sized(usize),
+    /// It comes in chunks.
+    Chunked,
+}
+
+// How a body is transferred.
+#[derive(Clone, Copy)]
+enum Coding {
+    // As it is.
+    Plain,
+    // In chunks.
+    InChunks,
+    // By what there isn't.
+    Unknown,
+}
+
+/// Where the body of a request of this version ends, or what is wrong with its fields.
+pub(crate) fn framing_of(
     bytes: &[u8],
     lines: &[HeaderSpan],
     fields: &Fields<'_>,
     method: &[u8],
     version: u8,
-) -> Result<usize, Refusal>
+) -> Result<Framing, Refusal>
     requires within { All (IsHeaderWithin (length bytes.now)) lines.now }
     requires first { AreFirst fields.now (map (header_bytes bytes.now) lines.now) }
     ensures fault { IfErr result (λ refusal. spec.fault_among version method.now (map (header_bytes bytes.now) lines.now) ≡ Some refusal) }
     ensures ok { OnOk result (spec.fault_among version method.now (map (header_bytes bytes.now) lines.now) ≡ None) }
-    ensures length { IfOk result (λ len. len ≡ spec.length_among (map (header_bytes bytes.now) lines.now)) }
-    ensures small { IfOk result (λ len. len ≤ longest_body) }
+    ensures framing { IfOk result (λ framed. framing framed ≡ spec.framing_among (map (header_bytes bytes.now) lines.now)) }
+    ensures small { IfOk result IsSmall }
 {
-    let len = told_length(bytes, lines, fields, method)?;
+    let framed = told_framing(bytes, lines, fields, method, version)?;
     match expected_of(version, fields) {
         Expected::Other => Err(Refusal::Expectation),
-        Expected::Nothing | Expected::GoOn => Ok(len),
+        Expected::Nothing | Expected::GoOn => Ok(framed),
+    }
+}
+
+// Where the fields tell that the body ends, or what is wrong with them.
+fn told_framing(
+    bytes: &[u8],
+    lines: &[HeaderSpan],
+    fields: &Fields<'_>,
+    method: &[u8],
+    version: u8,
+) -> Result<Framing, Refusal>
+    requires within { All (IsHeaderWithin (length bytes.now)) lines.now }
+    requires first { AreFirst fields.now (map (header_bytes bytes.now) lines.now) }
+    ensures fault { IfErr result (λ refusal. spec.framing_fault version method.now (map (header_bytes bytes.now) lines.now) ≡ Some refusal) }
+    ensures ok { OnOk result (spec.framing_fault version method.now (map (header_bytes bytes.now) lines.now) ≡ None) }
+    ensures framing { IfOk result (λ framed. framing framed ≡ spec.framing_among (map (header_bytes bytes.now) lines.now)) }
+    ensures small { IfOk result IsSmall }
+{
+    match coding_of(bytes, lines, fields) {
+        Coding::Plain => sized(told_length(bytes, lines, fields, method)),
+        Coding::InChunks => told_chunks(version, fields),
+        Coding::Unknown => Err(Refusal::Coding),
+    }
+}
+
+// The framing of a body by its length.
+fn sized(len: Result<usize, Refusal>) -> Result<Framing, Refusal>
+    ensures { result ≡ sized_by len }
+{
+    match len {
+        Ok(len) => Ok(Framing::Sized(len)),
+        Err(refusal) => Err(refusal),
+    }
+}
+
+// How a body is transferred.
+fn coding_of(bytes: &[u8], lines: &[HeaderSpan], fields: &Fields<'_>) -> Coding
+    requires within { All (IsHeaderWithin (length bytes.now)) lines.now }
+    requires first { AreFirst fields.now (map (header_bytes bytes.now) lines.now) }
+    ensures { coding result ≡ spec.coding_among (map (header_bytes bytes.now) lines.now) }
+{
+    let Some(said) = fields.transfer_encoding else {
+        return Coding::Plain;
+    };
+    let once = is_said_once(bytes, lines, b"transfer-encoding");
+    if is_chunked(said, once) {
+        Coding::InChunks
+    } else {
+        Coding::Unknown
+    }
+}
+
+// Whether a coding is `chunked`, and the only one.
+fn is_chunked(said: &[u8], once: bool) -> bool
+    ensures { result ≡ (bytes_eq (str_to_ascii_lowercase said.now) (codes "chunked") && once) }
+{
+    said.eq_ignore_ascii_case(b"chunked") && once
+}
+
+// Whether one field has this name, and no other.
+fn is_said_once(bytes: &[u8], lines: &[HeaderSpan], name: &[u8]) -> bool
+    requires within { All (IsHeaderWithin (length bytes.now)) lines.now }
+    requires lower { str_to_ascii_lowercase name.now ≡ name.now }
+    ensures { result ≡ (length (spec.values_of name.now (map (header_bytes bytes.now) lines.now)) == 1) }
+{
+    let mut count = 0usize;
+    for line in lines {
+        count += usize::from(is_named(bytes, *line, name));
+    }
+    count == 1
+}
+
+// What is wrong with the fields of a body in chunks, if anything is.
+fn told_chunks(version: u8, fields: &Fields<'_>) -> Result<Framing, Refusal>
+    ensures fault { (pairs : List spec.Pair) → AreFirst fields.now pairs → IfErr result (λ refusal. spec.chunks_fault version pairs ≡ Some refusal) }
+    ensures ok { (pairs : List spec.Pair) → AreFirst fields.now pairs → OnOk result (spec.chunks_fault version pairs ≡ None) }
+    ensures chunked { IfOk result (λ framed. framed ≡ Chunked) }
+{
+    if version == 0 || fields.content_length.is_some() {
+        Err(Refusal::BadLength)
+    } else {
+        Ok(Framing::Chunked)
     }
 }
 
@@ -261,14 +365,11 @@ fn told_length(
 ) -> Result<usize, Refusal>
     requires within { All (IsHeaderWithin (length bytes.now)) lines.now }
     requires first { AreFirst fields.now (map (header_bytes bytes.now) lines.now) }
-    ensures fault { IfErr result (λ refusal. spec.framing_fault method.now (map (header_bytes bytes.now) lines.now) ≡ Some refusal) }
-    ensures ok { OnOk result (spec.framing_fault method.now (map (header_bytes bytes.now) lines.now) ≡ None) }
+    ensures fault { IfErr result (λ refusal. fault_by_length method.now (map (header_bytes bytes.now) lines.now) ≡ Some refusal) }
+    ensures ok { OnOk result (fault_by_length method.now (map (header_bytes bytes.now) lines.now) ≡ None) }
     ensures length { IfOk result (λ len. len ≡ spec.length_among (map (header_bytes bytes.now) lines.now)) }
     ensures small { IfOk result (λ len. len ≤ longest_body) }
 {
-    if fields.transfer_encoding.is_some() {
-        return Err(Refusal::Coding);
-    }
     let Some(said) = fields.content_length else {
         return if needs_length(method) {
             Err(Refusal::NoLength)
@@ -295,13 +396,23 @@ fn needs_length(method: &[u8]) -> bool
     method == b"PUT".as_slice() || method == b"POST".as_slice()
 }
 
-/// Whether the client of a request with so long a body waits to be told to go on.
-pub(crate) fn waits_to_go_on(version: u8, fields: &Fields<'_>, len: usize) -> bool
-    ensures { (pairs : List spec.Pair) → AreFirst fields.now pairs → result ≡ spec.waits_by version pairs len }
+/// Whether the client of a request with such a body waits to be told to go on.
+pub(crate) fn waits_to_go_on(version: u8, fields: &Fields<'_>, framed: Framing) -> bool
+    ensures { (pairs : List spec.Pair) → AreFirst fields.now pairs → result ≡ spec.waits_by version pairs (framing framed) }
 {
     match expected_of(version, fields) {
-        Expected::GoOn => len > 0,
+        Expected::GoOn => has_body(framed),
         Expected::Nothing | Expected::Other => false,
+    }
+}
+
+// Whether there is a body, which may have no byte where it comes in chunks.
+fn has_body(framed: Framing) -> bool
+    ensures { result ≡ spec.has_body (framing framed) }
+{
+    match framed {
+        Framing::Sized(len) => len > 0,
+        Framing::Chunked => true,
     }
 }
 

@@ -1,18 +1,23 @@
 //! The first request of the bytes at hand.
 
-ghost use Rattle.std.specs.Prelude.{◌≡◌, ◌≤◌, true, IfOk};
+ghost use Rattle.std.specs.Prelude.{◌≡◌, ◌≤◌, ◌-◌, true, length, drop, IfOk};
 ghost use Rattle.httparse.specs.Spans.{span_bytes};
 ghost use Rattle.http_request.specs.Ask.{asked_by_none, asked_by_method};
 ghost use Rattle.http_request.specs.declared.ask.What.TheVariants.{Refused};
 ghost use Rattle.http_parse.specs.Finds.{Finds};
 ghost use Rattle.http_parse.specs.Heads.{StandsAt};
-ghost use Rattle.http_parse.specs.Known.{IsKnownOf, Leaves, kept_of};
+ghost use Rattle.http_request.specs.Limits.{longest_head};
+ghost use Rattle.http_parse.specs.Framed.{framing, IsSmall};
+ghost use Rattle.http_parse.specs.Reading.{HasRead};
+ghost use Rattle.http_parse.specs.Bodies.{EndsAt, IsWithinBytes, sized_ends, coded_ends, body_by};
+ghost use Rattle.http_parse.specs.Known.{IsKnownOf, Keeps, Leaves, kept_of};
 ghost use Rattle.http_parse.specs.Targets.{IsTargetOf};
 ghost use Rattle.http_parse.specs.declared.request.Asking.TheVariants.{First};
 
 use crate::anew::head_anew;
 use crate::asked::asked_by;
-use crate::fields::{body_length, closes, waits_to_go_on};
+use crate::chunks::{Coded, CodedBody};
+use crate::fields::{Framing, closes, framing_of, waits_to_go_on};
 use crate::firsts::fields_of;
 use crate::head::{HeadAt, read_head};
 use crate::known::KnownHead;
@@ -62,7 +67,10 @@ pub fn first_request(
     match read_head(bytes, &mut known.lines) {
         HeadAt::Unfinished => Ok(Asking::Head),
         HeadAt::Bad => Ok(no_head(bytes.len())),
-        HeadAt::Whole(spans) => request_with(alloc, tables, copies, known, bytes, spans),
+        HeadAt::Whole(spans) => {
+            known.body = CodedBody::new(alloc);
+            request_with(alloc, tables, copies, known, bytes, spans)
+        }
     }
 }
 
@@ -77,13 +85,22 @@ fn request_with(
 ) -> Result<Asking, AllocError>
     requires some { 1 ≤ copies }
     requires few { copies ≤ 3 }
-    requires known { IsKnownOf known.old bytes.now }
     requires head { StandsAt bytes.now known.old.lines spans }
+    requires body { HasRead known.old.body (drop spans.len bytes.now) }
     ensures finds { IfOk result (Finds copies bytes.now) }
     ensures known { IsKnownOf known.new bytes.now }
     ensures leaves { IfOk result (λ asking. Leaves asking bytes.now known.new) }
 {
-    let asking = request_at(alloc, tables, copies, bytes, spans, &known.lines)?;
+    known.spans = None;
+    let asking = request_at(
+        alloc,
+        tables,
+        copies,
+        bytes,
+        spans,
+        &known.lines,
+        &mut known.body,
+    )?;
     known.spans = kept(&asking, spans);
     Ok(asking)
 }
@@ -106,14 +123,17 @@ fn request_at(
     bytes: &[u8],
     spans: RequestSpans,
     lines: &[HeaderSpan],
+    read: &mut CodedBody,
 ) -> Result<Asking, AllocError>
     requires some { 1 ≤ copies }
     requires few { copies ≤ 3 }
     requires head { StandsAt bytes.now lines.now spans }
-    ensures { IfOk result (Finds copies bytes.now) }
+    requires read { HasRead read.old (drop spans.len bytes.now) }
+    ensures finds { IfOk result (Finds copies bytes.now) }
+    ensures keeps { IfOk result (λ asking. Keeps asking (drop spans.len bytes.now) read.new) }
 {
     match target_of(spans.path.of(bytes)) {
-        Some(target) => request_to(alloc, tables, copies, bytes, spans, lines, target),
+        Some(target) => request_to(alloc, tables, copies, bytes, spans, lines, read, target),
         None => Ok(no_head(spans.len)),
     }
 }
@@ -151,32 +171,37 @@ fn request_to(
     bytes: &[u8],
     spans: RequestSpans,
     lines: &[HeaderSpan],
+    read: &mut CodedBody,
     target: Target<'_>,
 ) -> Result<Asking, AllocError>
     requires some { 1 ≤ copies }
     requires few { copies ≤ 3 }
     requires head { StandsAt bytes.now lines.now spans }
+    requires read { HasRead read.old (drop spans.len bytes.now) }
     requires target { IsTargetOf (span_bytes bytes.now spans.path) target.path.now target.query.now }
-    ensures { IfOk result (Finds copies bytes.now) }
+    ensures finds { IfOk result (Finds copies bytes.now) }
+    ensures keeps { IfOk result (λ asking. Keeps asking (drop spans.len bytes.now) read.new) }
 {
     let lines = &lines[..spans.headers];
     let method = spans.method.of(bytes);
     let fields = fields_of(bytes, lines);
-    let body = match body_length(bytes, lines, &fields, method, spans.version) {
+    let framed = match framing_of(bytes, lines, &fields, method, spans.version) {
         Err(refusal) => return Ok(broken(method, refusal, spans.len)),
-        Ok(body) => body,
+        Ok(framed) => framed,
     };
-    if waits_to_go_on(spans.version, &fields, body) {
+    if waits_to_go_on(spans.version, &fields, framed) {
         let head = head_anew(alloc, bytes, method, spans.path, lines)?;
         return Ok(Asking::GoOn {
             head,
             len: spans.len,
         });
     }
-    let len = spans.len + body;
-    if bytes.len() < len {
-        return Ok(Asking::Body { needs: len });
-    }
+    let len = match body_at(bytes, spans.len, framed, read)? {
+        BodyAt::Unfinished { needs } => return Ok(Asking::Body { needs }),
+        BodyAt::Bad(refusal) => return Ok(broken(method, refusal, spans.len)),
+        BodyAt::Whole { len } => len,
+    };
+    let joined = read.take(alloc);
     let request = Request {
         method,
         path: target.path,
@@ -184,10 +209,75 @@ fn request_to(
         bytes,
         lines,
         fields: &fields,
-        body: &bytes[spans.len..len],
+        body: body_of(&bytes[spans.len..len], framed, joined.as_slice()),
         types: &tables.types,
     };
     let ask = request.ask(alloc, &tables.routes, copies)?;
     let ends = closes(spans.version, &fields);
     Ok(Asking::First { ask, ends, len })
+}
+
+// What the body behind a head comes to.
+#[derive(Clone, Copy)]
+enum BodyAt {
+    // It isn't whole, nor is it with fewer bytes than so many from the first of the head on.
+    Unfinished { needs: usize },
+    // It is none.
+    Bad(Refusal),
+    // It is whole, and the request has so many bytes.
+    Whole { len: usize },
+}
+
+// What the body comes to behind a head of so many bytes.
+fn body_at(
+    bytes: &[u8],
+    start: usize,
+    framed: Framing,
+    read: &mut CodedBody,
+) -> Result<BodyAt, AllocError>
+    requires start { start ≤ length bytes.now }
+    requires head { start ≤ longest_head }
+    requires small { IsSmall framed }
+    requires read { HasRead read.old (drop start bytes.now) }
+    ensures { IfOk result (λ at. EndsAt at (framing framed) bytes.now start read.new) }
+{
+    match framed {
+        Framing::Sized(len) => Ok(sized_at(bytes.len(), start + len)),
+        Framing::Chunked => Ok(coded_at(bytes.len(), start, read.look(&bytes[start..])?)),
+    }
+}
+
+// The same of a request whose length was said, of which so many bytes are there.
+fn sized_at(here: usize, len: usize) -> BodyAt
+    ensures { result ≡ sized_ends here len }
+{
+    if here < len {
+        BodyAt::Unfinished { needs: len }
+    } else {
+        BodyAt::Whole { len }
+    }
+}
+
+// The same where the body comes in chunks.
+fn coded_at(here: usize, start: usize, coded: Coded) -> BodyAt
+    requires start { start ≤ here }
+    requires within { IsWithinBytes coded (here - start) }
+    requires head { start ≤ longest_head }
+    ensures { result ≡ coded_ends here start coded }
+{
+    match coded {
+        Coded::Unfinished => BodyAt::Unfinished { needs: here + 1 },
+        Coded::Whole(len) => BodyAt::Whole { len: start + len },
+        Coded::Bad(refusal) => BodyAt::Bad(refusal),
+    }
+}
+
+// The body: these bytes, or the data of its chunks.
+fn body_of<'b>(bytes: &'b [u8], framed: Framing, joined: &'b [u8]) -> &'b [u8]
+    ensures { result.now ≡ body_by (framing framed) bytes.now joined.now }
+{
+    match framed {
+        Framing::Sized(_) => bytes,
+        Framing::Chunked => joined,
+    }
 }

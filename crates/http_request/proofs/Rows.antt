@@ -8,7 +8,9 @@ use Rattle.serde_json.proofs.OnLiterals.{serde_json_on_literals}
 use Rattle.http_request.specs.declared.ask.Refusal.TheVariants.{Coding, BadLength, NoLength, Large, Expectation, Method, Query, BadName, BadType, FixedProperty}
 use Rattle.http_request.specs.declared.route.Route.TheVariants as route
 use Rattle.http_request.specs.Table.{routes, route_of}
-use Rattle.http_request.specs.Fields.{fields_fault, fault_among, body_length, is_last, accepts, is_no_weight, waits_by, head_anew}
+use Rattle.http_request.specs.Fields.{fields_fault, fault_among, framing_of, framing_among, sized, chunked, is_last, accepts, is_no_weight, waits_by, head_anew}
+use Rattle.http_request.specs.Body.{data_in}
+use Rattle.http1.specs.ChunkedDecoder.{run}
 use Rattle.key_state.specs.declared.content.Content.TheVariants.{Value}
 use Rattle.http_request.specs.declared.ask.Change.TheVariants.{Kept, Unbound, Bound}
 use Rattle.http_request.specs.declared.ask.Property.TheVariants.{AllowMult, LastWriteWins, NVal, PostCommit}
@@ -58,7 +60,7 @@ unfolding routes seek param_step scan
 no_route = refl
 
 -- lengths
-http_siblings_length : body_length (head (codes "PUT") (codes "/x") (field (codes "content-LENGTH") (codes " 1 ") ∷ [])) ≡ 1
+http_siblings_length : framing_of (head (codes "PUT") (codes "/x") (field (codes "content-LENGTH") (codes " 1 ") ∷ [])) ≡ sized 1
 unfolding trim_ows field head
 http_siblings_length = refl
 
@@ -72,7 +74,7 @@ plus_length = refl
 
 -- the faults of the fields, in their order, where two or more stand
 fields_in_order :
-    (fault_among 1 (codes "PUT") ((codes "Transfer-Encoding", codes "chunked") ∷ (codes "Content-Length", codes "x") ∷ []) ≡ Some Coding)
+    (fault_among 1 (codes "PUT") ((codes "Transfer-Encoding", codes "gzip") ∷ (codes "Content-Length", codes "x") ∷ []) ≡ Some Coding)
     × (fault_among 1 (codes "PUT") ((codes "Content-Length", codes "99999999") ∷ (codes "Content-Length", codes "x") ∷ []) ≡ Some BadLength)
     × (fault_among 1 (codes "PUT") ((codes "Content-Length", codes "") ∷ []) ≡ Some BadLength)
     × (fault_among 1 (codes "POST") [] ≡ Some NoLength)
@@ -80,6 +82,24 @@ fields_in_order :
     × (fault_among 1 (codes "GET") ((codes "Content-Length", codes "65537") ∷ []) ≡ Some Large)
     × (fault_among 1 (codes "PUT") ((codes "Content-Length", codes "65536") ∷ (codes "Content-Length", codes "0065536") ∷ []) ≡ None)
 fields_in_order = (refl, refl, refl, refl, refl, refl, refl)
+
+-- chunks: alone, in HTTP/1.1, and by their name alone
+chunked_fields :
+    (fault_among 1 (codes "PUT") ((codes "transfer-encoding", codes "Chunked") ∷ []) ≡ None)
+    × (framing_among ((codes "Transfer-Encoding", codes "chunked") ∷ []) ≡ chunked)
+    × (fault_among 1 (codes "PUT") ((codes "Content-Length", codes "1") ∷ (codes "Transfer-Encoding", codes "chunked") ∷ []) ≡ Some BadLength)
+    × (fault_among 0 (codes "PUT") ((codes "Transfer-Encoding", codes "chunked") ∷ []) ≡ Some BadLength)
+    × (fault_among 1 (codes "PUT") ((codes "Transfer-Encoding", codes "gzip, chunked") ∷ []) ≡ Some Coding)
+    × (fault_among 1 (codes "GET") ((codes "Transfer-Encoding", codes "chunked") ∷ (codes "Transfer-Encoding", codes "chunked") ∷ []) ≡ Some Coding)
+    × (fault_among 1 (codes "PUT") ((codes "Transfer-Encoding", []) ∷ []) ≡ Some Coding)
+chunked_fields = (refl, refl, refl, refl, refl, refl, refl)
+
+-- data of chunks, whole or not, in sixteen's digits, with an extension
+chunk_data :
+    (data_in (codes "3;q=1" ++ 13 ∷ 10 ∷ codes "abc" ++ 13 ∷ 10 ∷ codes "10" ++ 13 ∷ 10 ∷ codes "de") ≡ codes "abcde")
+    × (data_in (codes "1" ++ 13 ∷ 10 ∷ codes "a" ++ 13 ∷ 10 ∷ codes "0" ++ 13 ∷ 10 ∷ codes "b") ≡ codes "a")
+unfolding run
+chunk_data = (refl, refl)
 
 -- what clients expect: of the faults the last, and nothing in HTTP/1.0
 expectations :
@@ -90,9 +110,10 @@ expectations :
 expectations = (refl, refl, refl, refl)
 
 waits :
-    (waits_by 1 ((codes "EXPECT", codes "100-CONTINUE") ∷ []) 1 ≡ true) × (waits_by 0 ((codes "Expect", codes "100-continue") ∷ []) 1 ≡ false)
-    × (waits_by 1 ((codes "Expect", codes "100-continue") ∷ []) 0 ≡ false) × (waits_by 1 [] 1 ≡ false)
-waits = (refl, refl, refl, refl)
+    (waits_by 1 ((codes "EXPECT", codes "100-CONTINUE") ∷ []) (sized 1) ≡ true) × (waits_by 0 ((codes "Expect", codes "100-continue") ∷ []) (sized 1) ≡ false)
+    × (waits_by 1 ((codes "Expect", codes "100-continue") ∷ []) (sized 0) ≡ false) × (waits_by 1 [] (sized 1) ≡ false)
+    × (waits_by 1 ((codes "Expect", codes "100-continue") ∷ []) chunked ≡ true)
+waits = (refl, refl, refl, refl, refl)
 
 anew : head_anew (codes "PUT") (codes "/x?y") ((codes "Host", codes "h") ∷ (codes "expect", codes "100-continue") ∷ (codes "Content-Length", codes "1") ∷ [])
     ≡ codes "PUT /x?y HTTP/1.1" ++ 10 ∷ codes "Host:h" ++ 10 ∷ codes "Content-Length:1" ++ 10 ∷ 10 ∷ []

@@ -1,5 +1,5 @@
 -- What the first request of some bytes asks for (this store's profile of HTTP/1.1 and of Riak KV's HTTP API).
-use Rattle.std.specs.Prelude.{◌≡◌, ℕ, ◌<◌, Bool, true, false, ◌&&◌, ◌||◌, if◌then◌else◌, bytes_eq, List, [], ◌++◌, length, codes, Option, Some, None, unwrap_or, Result, Ok, Err}
+use Rattle.std.specs.Prelude.{◌≡◌, ℕ, Bool, true, false, ◌&&◌, ◌||◌, if◌then◌else◌, bytes_eq, List, [], ◌++◌, length, codes, Option, Some, None, unwrap_or, Result, Ok, Err}
 use Rattle.httparse.specs.Grammar.{RequestHead}
 use Rattle.dvv.specs.declared.Dot.{Dot}
 use Rattle.key_state.specs.declared.content.Content.TheVariants.{Value, Tombstone}
@@ -8,7 +8,8 @@ use Rattle.context_token.specs.declared.fault.TokenFault.{TokenFault}
 use Rattle.context_token.specs.Token.{read_text}
 use Rattle.key_state.specs.Limits.{longest_bucket, longest_key, longest_media}
 use Rattle.http_request.specs.Head.{BeginsHead, IsBadHead, IsHeadUnfinished, IsOriginTarget}
-use Rattle.http_request.specs.Fields.{Pair, pairs_of, value_of, accepts, is_last, fields_fault, body_length, waits_to_go_on, without_expectation}
+use Rattle.http_request.specs.Fields.{Pair, pairs_of, value_of, accepts, is_last, fields_fault, framing_of, waits_to_go_on, without_expectation}
+use Rattle.http_request.specs.Body.{HasBody, BodyFault, IsBodyUnfinished}
 use Rattle.http_request.specs.Table.{route_of}
 use Rattle.http_request.specs.Target.{path_at, query_at, texts_of, name_at, is_name, is_hook_name, asked_for, Quorums, quorums_of}
 use Rattle.http_request.specs.Props.{changes_in}
@@ -170,12 +171,14 @@ module _ (n : ℕ) where
         → IsOriginTarget head.target → fields_fault head ≡ Some fault → Asks rest (asked_by_method head.method (Refused fault)) true []
     goes_on : (head : RequestHead) (after : List ℕ) → BeginsHead rest head after → IsOriginTarget head.target → fields_fault head ≡ None
         → waits_to_go_on head ≡ true → Asks rest asked_to_go_on false (without_expectation head ++ after)
-    whole : (head : RequestHead) (body after : List ℕ) → BeginsHead rest head (body ++ after)
-        → IsOriginTarget head.target → fields_fault head ≡ None → waits_to_go_on head ≡ false → length body ≡ body_length head
+    bad_body : (head : RequestHead) (bytes : List ℕ) (fault : Refusal) → BeginsHead rest head bytes → IsOriginTarget head.target → fields_fault head ≡ None
+        → waits_to_go_on head ≡ false → BodyFault (framing_of head) bytes fault → Asks rest (asked_by_method head.method (Refused fault)) true []
+    whole : (head : RequestHead) (bytes body after : List ℕ) → BeginsHead rest head bytes
+        → IsOriginTarget head.target → fields_fault head ≡ None → waits_to_go_on head ≡ false → HasBody (framing_of head) bytes body after
         → Asks rest (asked_by head body) (is_last head) (if is_last head then [] else after)
 
 -- the input ends inside a request: in its head, or in its body
 pub data IsUnfinished (rest : List ℕ) : Type 0 where
   in_head : IsHeadUnfinished rest → IsUnfinished rest
   in_body : (head : RequestHead) (after : List ℕ) → BeginsHead rest head after → IsOriginTarget head.target
-      → fields_fault head ≡ None → waits_to_go_on head ≡ false → length after < body_length head → IsUnfinished rest
+      → fields_fault head ≡ None → waits_to_go_on head ≡ false → IsBodyUnfinished (framing_of head) after → IsUnfinished rest

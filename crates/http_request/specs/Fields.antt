@@ -8,7 +8,8 @@ use Rattle.httparse.specs.Grammar.{trim_ows, RequestHead}
 use Rattle.httparse.specs.Spans.{name_and_value}
 use Rattle.http_request.specs.Limits.{longest_body}
 use Rattle.http_request.specs.declared.ask.Refusal.{Refusal}
-use Rattle.http_request.specs.declared.ask.Refusal.TheVariants.{Coding, BadLength, NoLength, Large, Expectation}
+use Rattle.http_request.specs.declared.ask.Refusal.TheVariants as refusal
+use Rattle.http_request.specs.declared.ask.Refusal.TheVariants.{BadLength, NoLength, Large, Expectation}
 
 -- a field's name and its value, without the white space around it
 abbrev pub Pair : Type 0
@@ -98,11 +99,51 @@ length_number absent = 0
 length_number bad = 0
 length_number (is n) = n
 
--- the first fault among the fields that tell where the body ends, of a request with this method
-abbrev pub framing_fault : List ℕ → List Pair → Option Refusal
-framing_fault method pairs =
-    if is_some (value_of (codes "transfer-encoding") pairs) then Some Coding
-    else length_fault method (length_said (values_of (codes "content-length") pairs))
+-- how a body is transferred: as it is, in chunks (RFC 9112, 7.1), or by what there isn't
+pub data Coding : Type 0 where
+  plain : Coding
+  in_chunks : Coding
+  unknown : Coding
+
+-- what the Transfer-Encoding fields say
+abbrev pub coding_said : List (List ℕ) → Coding
+coding_said [] = plain
+coding_said (v ∷ []) = if bytes_eq (str_to_ascii_lowercase v) (codes "chunked") then in_chunks else unknown
+coding_said (v ∷ w ∷ vs) = unknown
+
+abbrev pub coding_among : List Pair → Coding
+coding_among pairs = coding_said (values_of (codes "transfer-encoding") pairs)
+
+-- how many bytes the lengths say
+abbrev pub length_among : List Pair → ℕ
+length_among pairs = length_number (length_said (values_of (codes "content-length") pairs))
+
+-- what is wrong with a body in chunks: it comes in HTTP/1.0, which has none, or beside a length (RFC 9112, 6.1 and 6.3)
+abbrev pub chunks_fault : ℕ → List Pair → Option Refusal
+chunks_fault minor pairs = if minor == 0 || is_some (value_of (codes "content-length") pairs) then Some BadLength else None
+
+abbrev pub fault_by_coding : ℕ → List ℕ → List Pair → Coding → Option Refusal
+fault_by_coding minor method pairs plain = length_fault method (length_said (values_of (codes "content-length") pairs))
+fault_by_coding minor method pairs in_chunks = chunks_fault minor pairs
+fault_by_coding minor method pairs unknown = Some refusal.Coding
+
+-- the first fault among the fields that tell where the body ends, of a request of this version, by its minor number, with this method
+abbrev pub framing_fault : ℕ → List ℕ → List Pair → Option Refusal
+framing_fault minor method pairs = fault_by_coding minor method pairs (coding_among pairs)
+
+-- how it is known where a body ends: it has so many bytes, or it comes in chunks
+pub data Framing : Type 0 where
+  sized : ℕ → Framing
+  chunked : Framing
+
+abbrev pub framing_by : Coding → ℕ → Framing
+framing_by plain n = sized n
+framing_by in_chunks n = chunked
+framing_by unknown n = sized n
+
+-- where the fields say that the body ends
+abbrev pub framing_among : List Pair → Framing
+framing_among pairs = framing_by (coding_among pairs) (length_among pairs)
 
 -- what a client expects before it sends a body: nothing, to be told to go on, or something that there isn't (RFC 9110, 10.1.1)
 pub data Expected : Type 0 where
@@ -130,32 +171,33 @@ first_fault None rest = rest
 
 -- the first fault among the fields of a request of this version, by its minor number, with this method
 abbrev pub fault_among : ℕ → List ℕ → List Pair → Option Refusal
-fault_among minor method pairs = first_fault (framing_fault method pairs) (expected_fault (expected_of minor pairs))
-
--- how many bytes of body the fields announce
-abbrev pub length_among : List Pair → ℕ
-length_among pairs = length_number (length_said (values_of (codes "content-length") pairs))
+fault_among minor method pairs = first_fault (framing_fault minor method pairs) (expected_fault (expected_of minor pairs))
 
 -- the first fault of the fields, after which the connection ends
 abbrev pub fields_fault : RequestHead → Option Refusal
 fields_fault head = fault_among head.minor head.method (pairs_of head)
 
--- how many bytes of body follow the head
-abbrev pub body_length : RequestHead → ℕ
-body_length head = length_among (pairs_of head)
+-- where the body that follows the head ends
+abbrev pub framing_of : RequestHead → Framing
+framing_of head = framing_among (pairs_of head)
 
 abbrev pub is_go_on : Expected → Bool
 is_go_on nothing = false
 is_go_on go_on = true
 is_go_on other = false
 
--- a client that sends so many bytes of body waits to be told to go on
-abbrev pub waits_by : ℕ → List Pair → ℕ → Bool
-waits_by minor pairs len = is_go_on (expected_of minor pairs) && nat_lt 0 len
+-- there is a body, which may have no byte where it comes in chunks
+abbrev pub has_body : Framing → Bool
+has_body (sized n) = nat_lt 0 n
+has_body chunked = true
+
+-- a client that sends such a body waits to be told to go on
+abbrev pub waits_by : ℕ → List Pair → Framing → Bool
+waits_by minor pairs framing = is_go_on (expected_of minor pairs) && has_body framing
 
 -- the client waits to be told to go on, and there is a body
 abbrev pub waits_to_go_on : RequestHead → Bool
-waits_to_go_on head = waits_by head.minor (pairs_of head) (body_length head)
+waits_to_go_on head = waits_by head.minor (pairs_of head) (framing_of head)
 
 -- a field as a line, in the fewest bytes: nothing, if it is an Expect field
 abbrev pub line_anew : Pair → List ℕ

@@ -1,6 +1,7 @@
 pub mod Limits
 pub mod Head
 pub mod Fields
+pub mod Body
 pub mod Table
 pub mod Target
 pub mod Props

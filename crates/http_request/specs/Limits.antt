@@ -13,6 +13,11 @@ most_lines = 64
 abbrev pub longest_body : ℕ
 longest_body = 65536
 
+-- the most bytes of a body in chunks: their lines and ends, and the trailer section, are counted too. It is seven for each byte of the longest
+-- body, of which a chunk of one byte takes six
+abbrev pub longest_coded : ℕ
+longest_coded = 458752
+
 -- the most copies that a store has of a key
 abbrev pub most_copies : ℕ
 most_copies = 3

@@ -12,13 +12,14 @@ pub enum Refusal {
     /// No head of at most [`MAX_HEAD_BYTES`](crate::MAX_HEAD_BYTES) bytes and [`MAX_LINES`](crate::MAX_LINES) field lines can come of
     /// the bytes, or its target is no path with a query that begins with `/`.
     BadHead,
-    /// There is a `Transfer-Encoding`.
+    /// There is a `Transfer-Encoding` of something but `chunked`, or more than one.
     Coding,
-    /// A `Content-Length` is not one or more digits, or two of them are different numbers.
+    /// A `Content-Length` is not one or more digits, or two of them are different numbers; or there is one beside chunks, or chunks in
+    /// HTTP/1.0; or the chunks are none, or no body in chunks of at most [`MAX_CODED_BYTES`](crate::MAX_CODED_BYTES) bytes.
     BadLength,
-    /// A `PUT` or `POST` has no `Content-Length`.
+    /// A `PUT` or `POST` has no `Content-Length`, and isn't sent in chunks.
     NoLength,
-    /// The body has more than [`MAX_BODY_BYTES`](crate::MAX_BODY_BYTES) bytes.
+    /// The body has more than [`MAX_BODY_BYTES`](crate::MAX_BODY_BYTES) bytes, as its length says or as the chunks that came have.
     Large,
     /// There is an `Expect` of something but `100-continue`.
     Expectation,

@@ -12,5 +12,7 @@ mod limits;
 mod route;
 
 pub use ask::{Ask, Call, Change, Form, Property, Refusal, What};
-pub use limits::{MAX_BODY_BYTES, MAX_COPIES, MAX_HEAD_BYTES, MAX_HOOK_NAME_BYTES, MAX_LINES};
+pub use limits::{
+    MAX_BODY_BYTES, MAX_CODED_BYTES, MAX_COPIES, MAX_HEAD_BYTES, MAX_HOOK_NAME_BYTES, MAX_LINES,
+};
 pub use route::Route;

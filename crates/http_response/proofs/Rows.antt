@@ -1,11 +1,13 @@
 -- The worked answers, computed by the definitions.
-use Rattle.std.proofs.Common.{◌≡◌, List, [], ◌∷◌, ◌++◌, None, Ok, Err, refl, true, false, length}
+use Rattle.std.proofs.Common.{◌≡◌, List, [], ◌∷◌, ◌++◌, Some, None, Ok, Err, refl, ap, append_assoc, true, false, length}
 use Rattle.std.specs.Prelude.{codes}
 use Rattle.std.specs.Fmt.{digits}
 use Rattle.percent_encoding.specs.Percent.{percent_encode_byte}
 use Rattle.key_state.specs.declared.content.Content.TheVariants.{Value, Tombstone}
 use Rattle.key_state.specs.declared.content.Key.{Key}
 use Rattle.key_state.specs.declared.content.Sibling.{Sibling}
+use Rattle.context_token.specs.Token.{token}
+use Rattle.dvv.specs.declared.Dot.{Dot}
 use Rattle.quorum.specs.declared.fault.QuorumFault.TheVariants.{Rejected}
 use Rattle.http_request.specs.declared.ask.Ask.{Ask}
 use Rattle.http_request.specs.declared.ask.What.{What}
@@ -13,10 +15,10 @@ use Rattle.http_request.specs.declared.ask.What.TheVariants.{Ping, Resources, Op
 use Rattle.http_request.specs.declared.ask.Refusal.TheVariants.{Expectation, Method}
 use Rattle.http_request.specs.declared.route.Route.TheVariants as route
 use Rattle.http_request.specs.declared.ask.Call.TheVariants.{Get, Put}
-use Rattle.http_request.specs.declared.ask.Form.TheVariants.{Text}
+use Rattle.http_request.specs.declared.ask.Form.TheVariants.{Text, Parts, One}
 use Rattle.http_response.specs.declared.reply.Reply.TheVariants.{Nothing, Got, Stored}
 use Rattle.http_response.specs.Parts.{line, parts_body, boundary_of}
-use Rattle.http_response.specs.Answer.{answer, escaped, own_fields, print_answer, props_text, tags_text}
+use Rattle.http_response.specs.Answer.{answer, escaped, own_fields, print_answer, props_text, shown_etag, tags_text}
 
 key : Key
 key = record { bucket = codes "b"; key = codes "k" }
@@ -31,6 +33,9 @@ two : List Sibling
 two =
     record { dot = record { vnode = 0; n = 1 }; content = Value (codes "text/plain") (codes "a") }
     ∷ record { dot = record { vnode = 1; n = 1 }; content = Value (codes "text/plain") (codes "b") } ∷ []
+
+clock : List Dot
+clock = record { vnode = 0; n = 1 } ∷ record { vnode = 1; n = 1 } ∷ []
 
 third : List Sibling
 third =
@@ -48,7 +53,8 @@ unfolding digits key two whole print_answer
 http_put = refl
 
 unknown_key : answer 3 (whole (Call (Get key 2 0) Text)) (Got (Ok (record { siblings = []; clock = [] }))) false
-    ≡ line (codes "HTTP/1.1 404 Not Found") ++ line (codes "Content-Type: text/plain") ++ line (codes "Content-Length: 10") ++ own_fields ++ line []
+    ≡ line (codes "HTTP/1.1 404 Not Found") ++ line (codes "Content-Type: text/plain") ++ line (codes "Content-Length: 10") ++ own_fields
+    ++ line (codes "Vary: Accept") ++ line []
     ++ codes "not found" ++ 10 ∷ []
 unfolding digits key two whole print_answer
 unknown_key = refl
@@ -91,9 +97,25 @@ unfolding digits by_head print_answer
 ping_head = refl
 
 unknown_key_head : answer 3 (by_head (Call (Get key 2 0) Text)) (Got (Ok (record { siblings = []; clock = [] }))) true
-    ≡ line (codes "HTTP/1.1 404 Not Found") ++ line (codes "Content-Type: text/plain") ++ line (codes "Connection: close") ++ line (codes "Content-Length: 10") ++ own_fields ++ line []
+    ≡ line (codes "HTTP/1.1 404 Not Found") ++ line (codes "Content-Type: text/plain") ++ line (codes "Connection: close") ++ line (codes "Content-Length: 10") ++ own_fields
+    ++ line (codes "Vary: Accept") ++ line []
 unfolding digits key by_head print_answer
 unknown_key_head = refl
+
+-- the entity tags of one value and of several, by the tag of the write and by the context
+one_value : answer 3 (by_head (Call (Get key 2 0) Text))
+    (Got (Ok (record { siblings = record { dot = record { vnode = 0; n = 1 }; content = Value (codes "text/plain") (codes "a") } ∷ []; clock = [] }))) false
+    ≡ line (codes "HTTP/1.1 200 OK") ++ line (codes "Content-Type: text/plain") ++ line (codes "Content-Length: 1") ++ own_fields
+    ++ line (codes "ETag: \"0-1\"") ++ line (codes "Vary: Accept") ++ line []
+unfolding digits key by_head print_answer
+one_value = refl
+
+entity_tags :
+    (shown_etag Text clock two ≡ Some (codes "\"" ++ token clock ++ codes "\""))
+    × (shown_etag Parts clock two ≡ Some (codes "\"" ++ token clock ++ codes "-parts\""))
+    × (shown_etag (One (codes "1-1")) clock third ≡ Some (codes "\"1-1\"")) × (shown_etag (One (codes "0-2")) clock third ≡ None)
+unfolding digits two third
+entity_tags = (refl, ap (λ l. Some (34 ∷ l)) (append_assoc (token clock) (codes "-parts") (34 ∷ [])), refl, refl)
 
 options : answer 3 (whole (Options route.Hook)) Nothing false
     ≡ line (codes "HTTP/1.1 204 No Content") ++ line (codes "Allow: PUT, DELETE, OPTIONS") ++ own_fields ++ line []

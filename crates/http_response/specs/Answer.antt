@@ -48,6 +48,8 @@ pub record Answer : Type 0 where
   pub vclock : Option (List ℕ)
   pub tag : Option (List ℕ)
   pub allow : Option (List ℕ)
+  pub etag : Option (List ℕ)
+  pub vary : Option (List ℕ)
   pub body : Option (List ℕ)
 
 abbrev pub length_of : Option (List ℕ) → Option (List ℕ)
@@ -76,19 +78,20 @@ print_answer a how =
     line (codes "HTTP/1.1 " ++ a.status)
     ++ field_line (codes "Content-Type") a.media ++ field_line (codes "X-Riak-Vclock") a.vclock
     ++ field_line (codes "X-Riak-Tag") a.tag ++ field_line (codes "Connection") (closing how.ends)
-    ++ field_line (codes "Content-Length") (length_of a.body) ++ field_line (codes "Allow") a.allow ++ own_fields ++ line []
+    ++ field_line (codes "Content-Length") (length_of a.body) ++ field_line (codes "Allow") a.allow ++ own_fields
+    ++ field_line (codes "ETag") a.etag ++ field_line (codes "Vary") a.vary ++ line []
     ++ shown_body how.head_only a.body
 
 -- a status and a text
 abbrev pub told : List ℕ → List ℕ → Answer
-told status words = record { status = status; media = Some (codes "text/plain"); vclock = None; tag = None; allow = None; body = Some words }
+told status words = record { status = status; media = Some (codes "text/plain"); vclock = None; tag = None; allow = None; etag = None; vary = None; body = Some words }
 
 -- a status and one line of text
 abbrev pub line_told : List ℕ → List ℕ → Answer
 line_told status words = told status (words ++ 10 ∷ [])
 
 abbrev pub empty_answer : Answer
-empty_answer = record { status = codes "204 No Content"; media = None; vclock = None; tag = None; allow = None; body = None }
+empty_answer = record { status = codes "204 No Content"; media = None; vclock = None; tag = None; allow = None; etag = None; vary = None; body = None }
 
 -- the methods of a route (RFC 9110, 10.2.1)
 abbrev pub methods_of : Route → List ℕ
@@ -229,7 +232,7 @@ not_found = line_told (codes "404 Not Found") (codes "not found")
 
 -- one content as the answer
 abbrev pub content_answer : Content → Answer
-content_answer (Value media bytes) = record { status = codes "200 OK"; media = Some media; vclock = None; tag = None; allow = None; body = Some bytes }
+content_answer (Value media bytes) = record { status = codes "200 OK"; media = Some media; vclock = None; tag = None; allow = None; etag = None; vary = None; body = Some bytes }
 content_answer Tombstone = not_found
 
 abbrev pub sibling_answer : Option Sibling → Answer
@@ -255,6 +258,8 @@ several_answer Parts siblings = record {
   vclock = None;
   tag = None;
   allow = None;
+  etag = None;
+  vary = None;
   body = Some (parts_body (boundary_of siblings) siblings);
 }
 several_answer Text siblings = told choices (tags_text siblings)
@@ -275,8 +280,43 @@ abbrev pub vclock_of : List Dot → Option (List ℕ)
 vclock_of [] = None
 vclock_of (e ∷ es) = Some (token (e ∷ es))
 
+-- an entity tag (RFC 9110, 8.8.3)
+abbrev pub quoted : List ℕ → List ℕ
+quoted text = 34 ∷ text ++ 34 ∷ []
+
+-- that of siblings as a list, and as parts: the context, which each write of the key changes, and what they are shown as
+abbrev pub list_tag : List Dot → List ℕ
+list_tag context = quoted (token context)
+
+abbrev pub parts_tag : List Dot → List ℕ
+parts_tag context = quoted (token context ++ codes "-parts")
+
+-- that of one value: the tag of its write
+abbrev pub written_etag : Dot → Content → Option (List ℕ)
+written_etag dot (Value media bytes) = Some (quoted (tag_of dot))
+written_etag dot Tombstone = None
+
+abbrev pub sibling_etag : Option Sibling → Option (List ℕ)
+sibling_etag None = None
+sibling_etag (Some s) = written_etag s.dot s.content
+
+-- the entity tag of what a read shows
+abbrev pub shown_etag : Form → List Dot → List Sibling → Option (List ℕ)
+shown_etag (One tag) context siblings = sibling_etag (find (λ s. bytes_eq (tag_of s.dot) tag) siblings)
+shown_etag Text context [] = None
+shown_etag Text context (s ∷ []) = written_etag s.dot s.content
+shown_etag Text context (s ∷ t ∷ siblings) = Some (list_tag context)
+shown_etag Parts context [] = None
+shown_etag Parts context (s ∷ []) = written_etag s.dot s.content
+shown_etag Parts context (s ∷ t ∷ siblings) = Some (parts_tag context)
+
+-- the answer to a read: what it shows, its context and its entity tag, and that `Accept` chooses what is shown (RFC 9110, 12.5.5)
+abbrev pub read_answer : Form → List Dot → List Sibling → Answer
+read_answer form context siblings =
+    record (shown form siblings) { vclock = vclock_of context; etag = shown_etag form context siblings; vary = Some (codes "Accept") }
+
 abbrev pub got_answer : Form → Result State QuorumFault → Answer
-got_answer form (Ok state) = record (shown form state.siblings) { vclock = vclock_of state.clock }
+got_answer form (Ok state) = read_answer form state.clock state.siblings
 got_answer form (Err fault) = quorum_answer fault
 
 abbrev pub stored_answer : Result Dot QuorumFault → Answer

@@ -1,6 +1,6 @@
 //! The answer to a request.
 
-ghost use Rattle.std.specs.Prelude.{◌≡◌, ◌++◌, OnOk, IfOk, Ok, Some, [], ◌∷◌, length, bytes_eq, if◌then◌else◌};
+ghost use Rattle.std.specs.Prelude.{◌≡◌, ◌++◌, OnOk, IfOk, Ok, Some, None, [], ◌∷◌, length, bytes_eq, if◌then◌else◌};
 ghost use Rattle.std.specs.List.{find};
 ghost use Rattle.std.specs.Option.{option_copied};
 ghost use Rattle.bpf_admission.specs.Admissions.{rule_text};
@@ -12,10 +12,10 @@ ghost use Rattle.quorum.specs.declared.fault.QuorumFault.TheVariants.{Rejected};
 ghost use Rattle.http_response.specs.Answer as spec;
 ghost use Rattle.http_response.specs.Answer.{print_answer, answer};
 ghost use Rattle.http_response.specs.Parts.{tag_of};
-ghost use Rattle.http_response.specs.View.{line_of, with_clock};
+ghost use Rattle.http_response.specs.View.{etag_by, line_of, told_of};
 
 use crate::boundary::boundary_of;
-use crate::field::{Answer, Telling, push_number, push_parts, push_tag};
+use crate::field::{Answer, Read, Telling, Validator, push_number, push_parts, push_tag};
 use crate::parts::push_parts_body;
 use crate::reply::{Bound, Reply};
 use crate::words::{
@@ -65,7 +65,7 @@ fn push_methods(out: &mut Vec<u8>, route: Route, how: Telling) -> Result<(), All
     let answer = Answer {
         status: b"204 No Content",
         media: None,
-        context: None,
+        read: None,
         tag: None,
         allow: Some(methods_of(route)),
         body: None,
@@ -80,7 +80,7 @@ fn push_continue(out: &mut Vec<u8>, how: Telling) -> Result<(), AllocError>
     let answer = Answer {
         status: b"100 Continue",
         media: None,
-        context: None,
+        read: None,
         tag: None,
         allow: None,
         body: None,
@@ -95,7 +95,7 @@ fn push_line(out: &mut Vec<u8>, line: Line, how: Telling) -> Result<(), AllocErr
     let answer = Answer {
         status: line.status,
         media: Some(b"text/plain"),
-        context: None,
+        read: None,
         tag: None,
         allow: line.allow,
         body: Some(line.text),
@@ -116,7 +116,7 @@ fn push_told<'a>(
     let answer = Answer {
         status,
         media: Some(media),
-        context: None,
+        read: None,
         tag: None,
         allow: None,
         body: Some(body),
@@ -131,7 +131,7 @@ fn push_empty(out: &mut Vec<u8>, tag: Option<&[u8]>, how: Telling) -> Result<(),
     let answer = Answer {
         status: b"204 No Content",
         media: None,
-        context: None,
+        read: None,
         tag,
         allow: None,
         body: None,
@@ -420,12 +420,12 @@ fn push_shown(
     how: Telling,
 ) -> Result<(), AllocError>
     requires { text.old.items ≡ [] }
-    ensures { OnOk result (out.new.items ≡ out.old.items ++ print_answer (with_clock context.now (spec.shown form.now siblings.now)) how) }
+    ensures { OnOk result (out.new.items ≡ out.old.items ++ print_answer (spec.read_answer form.now context.now siblings.now) how) }
 {
     match (form, siblings) {
         (Form::One(tag), _) => push_tagged(out, text, siblings, tag.as_slice(), context, how),
         (_, []) => push_missing(out, context, how),
-        (_, [sibling]) => push_content(out, &sibling.content, context, how),
+        (_, [sibling]) => push_sibling(out, sibling, context, how),
         (Form::Parts, _) => push_mixed(out, text, siblings, context, how),
         (Form::Text, _) => push_listed(out, text, siblings, context, how),
     }
@@ -440,11 +440,12 @@ fn push_tagged(
     context: &Clock,
     how: Telling,
 ) -> Result<(), AllocError>
-    ensures { OnOk result (out.new.items ≡ out.old.items ++ print_answer (with_clock context.now (spec.sibling_answer (find (λ s. bytes_eq (tag_of s.dot) tag.now) siblings.now))) how) }
+    ensures { OnOk result (out.new.items ≡ out.old.items ++ print_answer (told_of context.now (spec.sibling_etag (find (λ s. bytes_eq (tag_of s.dot) tag.now) siblings.now))
+        (spec.sibling_answer (find (λ s. bytes_eq (tag_of s.dot) tag.now) siblings.now))) how) }
 {
     let found = find_tag(text, siblings, tag)?;
     match found {
-        Some(sibling) => push_content(out, &sibling.content, context, how),
+        Some(sibling) => push_sibling(out, sibling, context, how),
         None => push_missing(out, context, how),
     }
 }
@@ -458,20 +459,27 @@ fn push_listed(
     how: Telling,
 ) -> Result<(), AllocError>
     requires { text.old.items ≡ [] }
-    ensures { OnOk result (out.new.items ≡ out.old.items ++ print_answer (with_clock context.now (spec.told spec.choices (spec.tags_text siblings.now))) how) }
+    ensures { OnOk result (out.new.items ≡ out.old.items ++ print_answer (told_of context.now (Some (spec.list_tag context.now)) (spec.told spec.choices (spec.tags_text siblings.now))) how) }
 {
     push_tags(text, siblings)?;
-    push_choices(out, b"text/plain", text.as_slice(), context, how)
+    let read = Read {
+        context,
+        validator: Validator::List,
+    };
+    push_choices(out, b"text/plain", text.as_slice(), read, how)
 }
 
 // Adds that there is nothing.
 fn push_missing(out: &mut Vec<u8>, context: &Clock, how: Telling) -> Result<(), AllocError>
-    ensures { OnOk result (out.new.items ≡ out.old.items ++ print_answer (with_clock context.now spec.not_found) how) }
+    ensures { OnOk result (out.new.items ≡ out.old.items ++ print_answer (told_of context.now None spec.not_found) how) }
 {
     let answer = Answer {
         status: NOT_FOUND,
         media: Some(b"text/plain"),
-        context: Some(context),
+        read: Some(Read {
+            context,
+            validator: Validator::Nothing,
+        }),
         tag: None,
         allow: None,
         body: Some(b"not found\n"),
@@ -479,22 +487,25 @@ fn push_missing(out: &mut Vec<u8>, context: &Clock, how: Telling) -> Result<(), 
     push_parts(out, &answer, how)
 }
 
-// Adds a content by itself.
-fn push_content<'a, 'v>(
+// Adds a sibling by itself.
+fn push_sibling<'a, 'v>(
     out: &mut Vec<u8>,
-    content: &'a Content,
+    sibling: &'a Sibling,
     context: &'v Clock,
     how: Telling,
 ) -> Result<(), AllocError>
-    ensures { OnOk result (out.new.items ≡ out.old.items ++ print_answer (with_clock context.now (spec.content_answer content.now)) how) }
+    ensures { OnOk result (out.new.items ≡ out.old.items ++ print_answer (told_of context.now (spec.sibling_etag (Some sibling.now)) (spec.content_answer sibling.now.content)) how) }
 {
-    match content {
+    match &sibling.content {
         Content::Tombstone => push_missing(out, context, how),
         Content::Value { media, bytes } => {
             let answer = Answer {
                 status: b"200 OK",
                 media: Some(media.as_slice()),
-                context: Some(context),
+                read: Some(Read {
+                    context,
+                    validator: Validator::Write(sibling.dot),
+                }),
                 tag: None,
                 allow: None,
                 body: Some(bytes.as_slice()),
@@ -509,15 +520,16 @@ fn push_choices<'a, 'v>(
     out: &mut Vec<u8>,
     media: &'a [u8],
     body: &'a [u8],
-    context: &'v Clock,
+    read: Read<'v>,
     how: Telling,
 ) -> Result<(), AllocError>
-    ensures { OnOk result (out.new.items ≡ out.old.items ++ print_answer (with_clock context.now (record (spec.told spec.choices body.now) { media = Some media.now })) how) }
+    ensures { OnOk result (out.new.items ≡ out.old.items ++ print_answer (told_of read.entry.context.now (etag_by read.entry.validator read.entry.context.now)
+        (record (spec.told spec.choices body.now) { media = Some media.now })) how) }
 {
     let answer = Answer {
         status: b"300 Multiple Choices",
         media: Some(media),
-        context: Some(context),
+        read: Some(read),
         tag: None,
         allow: None,
         body: Some(body),
@@ -534,14 +546,18 @@ fn push_mixed(
     how: Telling,
 ) -> Result<(), AllocError>
     requires { text.old.items ≡ [] }
-    ensures { OnOk result (out.new.items ≡ out.old.items ++ print_answer (with_clock context.now (spec.several_answer Parts siblings.now)) how) }
+    ensures { OnOk result (out.new.items ≡ out.old.items ++ print_answer (told_of context.now (Some (spec.parts_tag context.now)) (spec.several_answer Parts siblings.now)) how) }
 {
     let boundary = boundary_of(text, siblings)?;
     text.clear();
     let media_len = push_mixed_type(text, boundary)?;
     push_parts_body(text, boundary, siblings)?;
     let (media, body) = text.split_at(media_len);
-    push_choices(out, media, body, context, how)
+    let read = Read {
+        context,
+        validator: Validator::Parts,
+    };
+    push_choices(out, media, body, read, how)
 }
 
 // Adds the media type of a body in parts, and tells how many bytes the text has then.

@@ -1,10 +1,11 @@
 //! The pieces of an answer.
 
-ghost use Rattle.std.specs.Prelude.{◌≡◌, ◌++◌, OnOk, [], codes, decimal};
+ghost use Rattle.std.specs.Prelude.{◌≡◌, ◌++◌, OnOk, Some, codes, decimal};
 ghost use Rattle.std.specs.Option.{option_copied};
-ghost use Rattle.http_response.specs.Answer.{closing, length_of, own_fields, print_answer, shown_body, vclock_of};
+ghost use Rattle.context_token.specs.Token.{token};
+ghost use Rattle.http_response.specs.Answer.{closing, length_of, own_fields, print_answer, quoted, shown_body, vclock_of};
 ghost use Rattle.http_response.specs.Parts.{line, field_line, tag_of};
-ghost use Rattle.http_response.specs.View.{parts_of, context_of, head_end};
+ghost use Rattle.http_response.specs.View.{parts_of, context_of, etag_by, read_end};
 
 use dvv::{Clock, Dot};
 use std::alloc::AllocError;
@@ -18,12 +19,32 @@ pub(crate) struct Telling {
     pub(crate) head_only: bool,
 }
 
-/// The parts of an answer; its context has a lifetime of its own.
+/// What is told of a key, beside what is shown of it.
+#[derive(Clone, Copy)]
+pub(crate) struct Read<'c> {
+    pub(crate) context: &'c Clock,
+    pub(crate) validator: Validator,
+}
+
+/// What the entity tag of what is shown of a key is made of (RFC 9110, 8.8.3).
+#[derive(Clone, Copy)]
+pub(crate) enum Validator {
+    /// There is none: nothing is shown.
+    Nothing,
+    /// One value: the tag of its write.
+    Write(Dot),
+    /// Siblings as a list: the context, which each write of the key changes.
+    List,
+    /// Siblings as parts: the context, and that they are parts.
+    Parts,
+}
+
+/// The parts of an answer; what is told of a key has a lifetime of its own.
 #[derive(Clone, Copy)]
 pub(crate) struct Answer<'a, 'c> {
     pub(crate) status: &'a [u8],
     pub(crate) media: Option<&'a [u8]>,
-    pub(crate) context: Option<&'c Clock>,
+    pub(crate) read: Option<Read<'c>>,
     pub(crate) tag: Option<&'a [u8]>,
     pub(crate) allow: Option<&'a [u8]>,
     pub(crate) body: Option<&'a [u8]>,
@@ -35,11 +56,13 @@ pub(crate) fn push_parts(out: &mut Vec<u8>, answer: &Answer, how: Telling) -> Re
 {
     push_status(out, answer.status)?;
     push_field(out, b"Content-Type", answer.media)?;
-    push_context(out, answer.context)?;
+    push_context(out, answer.read)?;
     push_field(out, b"X-Riak-Tag", answer.tag)?;
     push_close(out, how.ends)?;
     push_length(out, answer.body)?;
-    push_head_end(out, answer.allow)?;
+    push_field(out, b"Allow", answer.allow)?;
+    push_own_fields(out)?;
+    push_read_end(out, answer.read)?;
     push_body(out, how.head_only, answer.body)?;
     Ok(())
 }
@@ -54,12 +77,12 @@ fn push_status(out: &mut Vec<u8>, status: &[u8]) -> Result<(), AllocError>
 }
 
 // Adds a context, where there is one.
-fn push_context(out: &mut Vec<u8>, context: Option<&Clock>) -> Result<(), AllocError>
-    ensures { OnOk result (out.new.items ≡ out.old.items ++ field_line (codes "X-Riak-Vclock") (context_of (option_copied context.entry))) }
+fn push_context(out: &mut Vec<u8>, read: Option<Read<'_>>) -> Result<(), AllocError>
+    ensures { OnOk result (out.new.items ≡ out.old.items ++ field_line (codes "X-Riak-Vclock") (context_of read.entry)) }
 {
-    match context {
+    match read {
         None => Ok(()),
-        Some(clock) => push_clock(out, clock),
+        Some(read) => push_clock(out, read.context),
     }
 }
 
@@ -117,20 +140,61 @@ fn push_length(out: &mut Vec<u8>, body: Option<&[u8]>) -> Result<(), AllocError>
     }
 }
 
-// Adds the methods, where they are told, the fields of each answer, and the empty line.
-fn push_head_end(out: &mut Vec<u8>, allow: Option<&[u8]>) -> Result<(), AllocError>
-    ensures { OnOk result (out.new.items ≡ out.old.items ++ head_end (option_copied allow.entry)) }
+// Adds the fields of each answer.
+fn push_own_fields(out: &mut Vec<u8>) -> Result<(), AllocError>
+    ensures { OnOk result (out.new.items ≡ out.old.items ++ own_fields) }
 {
-    push_field(out, b"Allow", allow)?;
-    push_own_end(out)?;
+    out.extend_from_slice(b"X-Content-Type-Options: nosniff\r\nServer: dvvstore\r\n")
+}
+
+// Adds what is told of a key behind the fields of each answer, and the empty line.
+fn push_read_end(out: &mut Vec<u8>, read: Option<Read<'_>>) -> Result<(), AllocError>
+    ensures { OnOk result (out.new.items ≡ out.old.items ++ read_end read.entry) }
+{
+    match read {
+        None => out.extend_from_slice(b"\r\n"),
+        Some(read) => push_told_end(out, read),
+    }
+}
+
+// Adds the entity tag, where there is one, that `Accept` chose what is shown, and the empty line.
+fn push_told_end(out: &mut Vec<u8>, read: Read<'_>) -> Result<(), AllocError>
+    ensures { OnOk result (out.new.items ≡ out.old.items ++ read_end (Some read.entry)) }
+{
+    push_etag(out, read)?;
+    out.extend_from_slice(b"Vary: Accept\r\n\r\n")?;
     Ok(())
 }
 
-// Adds the fields of each answer, and the empty line.
-fn push_own_end(out: &mut Vec<u8>) -> Result<(), AllocError>
-    ensures { OnOk result (out.new.items ≡ out.old.items ++ (own_fields ++ line [])) }
+// Adds the entity tag, where there is one.
+fn push_etag(out: &mut Vec<u8>, read: Read<'_>) -> Result<(), AllocError>
+    ensures { OnOk result (out.new.items ≡ out.old.items ++ field_line (codes "ETag") (etag_by read.entry.validator read.entry.context.now)) }
 {
-    out.extend_from_slice(b"X-Content-Type-Options: nosniff\r\nServer: dvvstore\r\n\r\n")
+    match read.validator {
+        Validator::Nothing => Ok(()),
+        Validator::Write(dot) => push_write_tag(out, dot),
+        Validator::List => push_context_tag(out, read.context, b"\"\r\n"),
+        Validator::Parts => push_context_tag(out, read.context, b"-parts\"\r\n"),
+    }
+}
+
+// Adds the entity tag of one value.
+fn push_write_tag(out: &mut Vec<u8>, dot: Dot) -> Result<(), AllocError>
+    ensures { OnOk result (out.new.items ≡ out.old.items ++ field_line (codes "ETag") (Some (quoted (tag_of dot)))) }
+{
+    out.extend_from_slice(b"ETag: \"")?;
+    push_tag(out, dot)?;
+    out.extend_from_slice(b"\"\r\n")?;
+    Ok(())
+}
+
+// Adds the entity tag of siblings, up to its end.
+fn push_context_tag(out: &mut Vec<u8>, context: &Clock, end: &[u8]) -> Result<(), AllocError>
+    ensures { OnOk result (out.new.items ≡ out.old.items ++ (codes "ETag: \"" ++ token context.now ++ end.now)) }
+{
+    out.extend_from_slice(b"ETag: \"")?;
+    context_token::write_to(context, out)?;
+    out.extend_from_slice(end)
 }
 
 // Adds the body, where there is one and more than the head is asked for.

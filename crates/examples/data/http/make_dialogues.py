@@ -128,7 +128,7 @@ def seen(clock, version=2):
 # Answers
 
 
-def answer(status, media=None, clock=None, dot=None, closes=False, body=None, allow=None):
+def answer(status, media=None, clock=None, dot=None, closes=False, body=None, allow=None, etag=None, shows_key=False):
     """An answer: its fields in their order, each where it applies. An empty clock is not told."""
     lines = [f"HTTP/1.1 {status} {PHRASES[status]}"]
     if media is not None:
@@ -144,6 +144,10 @@ def answer(status, media=None, clock=None, dot=None, closes=False, body=None, al
     if allow is not None:
         lines.append(f"Allow: {allow}")
     lines += ["X-Content-Type-Options: nosniff", "Server: dvvstore"]
+    if etag is not None:
+        lines.append(f'ETag: "{etag}"')
+    if shows_key:
+        lines.append("Vary: Accept")
     return "\r\n".join([*lines, "", ""]).encode() + as_bytes(body or "")
 
 
@@ -187,17 +191,20 @@ def no_method(route):
     return 405, "method", METHODS[route]
 
 
-def value(clock, text, media=TEXT):
-    return answer(200, media, clock, body=text)
+def value(clock, text, media=TEXT, dot=None):
+    """One value, of the write of a dot: of the vnode's that wrote most, unless it is told."""
+    dot = dot or max(clock.items(), key=lambda entry: entry[1])
+    return answer(200, media, clock, body=text, etag=tag(dot), shows_key=True)
 
 
 def not_found(clock=None):
-    return answer(404, TEXT, clock, body="not found\n")
+    return answer(404, TEXT, clock, body="not found\n", shows_key=True)
 
 
 def choices(clock, *dots):
     """Several siblings: their tags, in order."""
-    return answer(300, TEXT, clock, body="".join(f"{line}\n" for line in ["Siblings:", *map(tag, sorted(dots))]))
+    lines = ["Siblings:", *map(tag, sorted(dots))]
+    return answer(300, TEXT, clock, body="".join(f"{line}\n" for line in lines), etag=context(clock), shows_key=True)
 
 
 def parts(clock, siblings):
@@ -208,7 +215,8 @@ def parts(clock, siblings):
     for dot, text in sorted(siblings.items()):
         kind = "X-Riak-Deleted: true" if text is None else f"Content-Type: {TEXT}"
         body += f"\r\n--s{number}\r\n{kind}\r\nX-Riak-Tag: {tag(dot)}\r\n\r\n{text or ''}"
-    return answer(300, f"multipart/mixed; boundary=s{number}", clock, body=f"{body}\r\n--s{number}--\r\n")
+    media = f"multipart/mixed; boundary=s{number}"
+    return answer(300, media, clock, body=f"{body}\r\n--s{number}--\r\n", etag=f"{context(clock)}-parts", shows_key=True)
 
 
 def properties(bucket, precommit, resolver):
@@ -247,7 +255,7 @@ def cart():
         yield request(f"GET {ann.target}", f"Accept: {accepted}"), choices(both, (one, 3), (two, 1))
     for accepted in "multipart/mixed;q=0.001", "multipart/mixed;q=0, multipart/mixed", "multipart/mixed;q=00", "multipart/mixed;qq=0":
         yield request(f"GET {ann.target}", f"Accept: {accepted}"), parts(both, siblings)
-    yield request(f"GET {ann.target}?vtag={tag((two, 1))}"), value(both, "milk, rye --s0")
+    yield request(f"GET {ann.target}?vtag={tag((two, 1))}"), value(both, "milk, rye --s0", dot=(two, 1))
     yield request(f"GET {ann.target}?vtag={tag((one, 2))}"), not_found(both)
 
     # What has seen both takes their place, and so does the delete of that.
@@ -658,9 +666,20 @@ BROKEN = [
     ("GET /ping HTTP/1.1\r\nA: b\r\n c\r\n\r\n", BAD_HEAD),
     # a bad target and a coding
     ("PUT ping HTTP/1.1\r\nTransfer-Encoding: chunked\r\n\r\n", BAD_HEAD),
-    ("POST /ping HTTP/1.1\r\ntransfer-encoding: chunked\r\n\r\n", CODING),
+    ("POST /ping HTTP/1.1\r\ntransfer-encoding: gzip\r\n\r\n", CODING),
+    ("POST /ping HTTP/1.1\r\nTransfer-Encoding: gzip, chunked\r\n\r\n", CODING),
+    ("POST /ping HTTP/1.1\r\nTransfer-Encoding: chunked, chunked\r\n\r\n", CODING),
+    ("POST /ping HTTP/1.1\r\nTransfer-Encoding: chunked;q=1\r\n\r\n", CODING),
+    ("GET /ping HTTP/1.1\r\nTransfer-Encoding: identity\r\n\r\n", CODING),
+    # several of them
+    ("PUT /x HTTP/1.1\r\nTransfer-Encoding: chunked\r\nTransfer-Encoding: chunked\r\n\r\n", CODING),
+    ("PUT /x HTTP/1.1\r\nTransfer-Encoding: chunked\r\nTransfer-Encoding: identity\r\n\r\n", CODING),
     # a coding and a length that is no number, and none
-    ("PUT /x HTTP/1.1\r\nContent-Length: x\r\nTransfer-Encoding: chunked\r\n\r\n", CODING),
+    ("PUT /x HTTP/1.1\r\nContent-Length: x\r\nTransfer-Encoding: gzip\r\n\r\n", CODING),
+    # chunks and a length, and chunks in HTTP/1.0
+    ("PUT /x HTTP/1.1\r\nContent-Length: 5\r\nTransfer-Encoding: chunked\r\n\r\n0\r\n\r\n", BAD_LENGTH),
+    ("GET /ping HTTP/1.1\r\nTransfer-Encoding: chunked\r\nContent-Length: 0\r\n\r\n0\r\n\r\n", BAD_LENGTH),
+    ("PUT /x HTTP/1.0\r\nTransfer-Encoding: chunked\r\n\r\n0\r\n\r\n", BAD_LENGTH),
     ("PUT /x HTTP/1.1\r\nTransfer-Encoding:\r\n\r\n", CODING),
     ("GET /ping HTTP/1.1\r\nContent-Length: +1\r\n\r\n", BAD_LENGTH),
     ("GET /ping HTTP/1.1\r\nContent-Length: 1 1\r\n\r\n", BAD_LENGTH),
@@ -681,7 +700,8 @@ BROKEN = [
     ("GET /ping HTTP/1.1\r\nExpect:\r\n\r\n", EXPECTATION),
     ("GET /ping HTTP/1.1\r\nExpect: 100-continue, x\r\n\r\n", EXPECTATION),
     ("PUT /x HTTP/1.1\r\nexpect: 100-continued\r\nExpect: 100-continue\r\nContent-Length: 1\r\n\r\n", EXPECTATION),
-    ("PUT /x HTTP/1.1\r\nExpect: x\r\nTransfer-Encoding: chunked\r\n\r\n", CODING),
+    ("PUT /x HTTP/1.1\r\nExpect: x\r\nTransfer-Encoding: gzip\r\n\r\n", CODING),
+    ("PUT /x HTTP/1.1\r\nExpect: x\r\nTransfer-Encoding: chunked\r\n\r\n0\r\n\r\n", EXPECTATION),
     ("PUT /x HTTP/1.1\r\nExpect: x\r\nContent-Length: x\r\n\r\n", BAD_LENGTH),
     ("PUT /x HTTP/1.1\r\nExpect: 100-continue\r\n\r\n", NO_LENGTH),
     ("PUT /x HTTP/1.1\r\nExpect: 100-continue\r\nContent-Length: 65537\r\n\r\n", LARGE),
@@ -813,7 +833,7 @@ def methods():
     both = {one: 1, two: 1}
     yield by_head(key.target), head_of(choices(both, (one, 1), (two, 1)))
     yield by_head(key.target, "Accept: multipart/mixed"), head_of(parts(both, {(one, 1): "a", (two, 1): "b"}))
-    yield by_head(f"{key.target}?vtag={tag((two, 1))}"), head_of(value(both, "b"))
+    yield by_head(f"{key.target}?vtag={tag((two, 1))}"), head_of(value(both, "b", dot=(two, 1)))
     yield by_head("/buckets/b/props"), head_of(properties("b", None, None))
     # A body that comes with HEAD is passed over.
     yield request("HEAD /ping", body="GET /ping HTTP/1.1\r\n\r\n"), head_of(pong())
@@ -840,7 +860,7 @@ def methods():
     yield request("OPTIONS /none"), told(*NO_ROUTE)
     # The same routes with Riak's type `default`, and its old route of a key. No other type is there.
     typed_key, old_key = f"/types/default{key.target}", "/riak/b/k"
-    yield request(f"GET {typed_key}?vtag={tag((one, 1))}"), value(both, "a")
+    yield request(f"GET {typed_key}?vtag={tag((one, 1))}"), value(both, "a", dot=(one, 1))
     yield request(f"POST {old_key}", typed(TEXT), seen(both), body="c"), written(one, 2)
     yield by_head(old_key), head_of(value({one: 2, two: 1}, "c"))
     yield request(f"PUT {typed_key}", typed(TEXT), seen({one: 2, two: 1}), body="d"), written(one, 3)
@@ -949,6 +969,101 @@ def expects():
         yield as_bytes(bytes_sent), answered
 
 
+def in_chunks(*pieces, extension="", trailers=""):
+    """A body in chunks, with these data, an extension in each line and a trailer section."""
+    lines = [f"{len(piece):x}{extension}\r\n{piece}\r\n" for piece in pieces]
+    return "".join(lines) + f"0{extension}\r\n{trailers}\r\n"
+
+
+def chunks():
+    """Bodies in chunks: such as are the same request as by its length, and such as are none."""
+    key = Key("b", "k")
+    one = key.vnode()
+    coded = "Transfer-Encoding: chunked"
+
+    def sent(body, *fields, line=f"PUT {key.target}", clock=None):
+        lines = [f"{line} HTTP/1.1", "Host: store", coded, *fields, *([seen(clock)] if clock else [])]
+        return "\r\n".join([*lines, "", ""]).encode() + as_bytes(body)
+
+    # However it is cut into chunks, it is one body: in one, in several, of one byte each, and in none.
+    yield sent(in_chunks("a"), typed(TEXT)), written(one, 1)
+    yield request(f"GET {key.target}"), value({one: 1}, "a")
+    yield sent(in_chunks("Wi", "ki", "pedia in\r\n\r\nchunks."), typed(TEXT), clock={one: 1}), written(one, 2)
+    yield request(f"GET {key.target}"), value({one: 2}, "Wikipedia in\r\n\r\nchunks.")
+    yield sent(in_chunks(*"abc" * 20), typed(TEXT), clock={one: 2}), written(one, 3)
+    yield request(f"GET {key.target}"), value({one: 3}, "abc" * 20)
+    yield sent(in_chunks(), typed(TEXT), clock={one: 3}), written(one, 4)
+    yield request(f"GET {key.target}"), value({one: 4}, "")
+    # Digits of either case, zeros in front, and space behind them.
+    yield sent("00A\r\n0123456789\r\n00b \t\r\nabcdefghijk\r\n000\r\n\r\n", typed(TEXT), clock={one: 4}), written(one, 5)
+    yield request(f"GET {key.target}"), value({one: 5}, "0123456789abcdefghijk")
+    # Extensions and trailers are passed over.
+    yield sent(in_chunks("a", "b", extension=';q="1;2";r', trailers="X-Riak-Vclock: no\r\nContent-Length: 9\r\n"), clock={one: 5}), written(one, 6)
+    yield request(f"GET {key.target}"), value({one: 6}, "ab", OCTETS)
+    # The name's case doesn't matter, nor the space around it; all methods may have such a body, and what follows is another request.
+    yield f"POST {key.target} HTTP/1.1\r\ntransfer-ENCODING:\tCHUNKED \r\n{seen({one: 6})}\r\n\r\n1\r\nc\r\n0\r\n\r\n".encode(), written(one, 7)
+    yield sent(in_chunks("GET /ping HTTP/1.1\r\n\r\n"), line="GET /ping"), pong()
+    yield sent(in_chunks("x"), line="HEAD /ping"), head_of(pong())
+    yield sent(in_chunks("x"), line=f"DELETE {key.target}", clock={one: 7}), written(one, 8)
+    yield sent(in_chunks('{"props":{', '"precommit":null}}'), line="PUT /buckets/b/props"), done()
+    # A client may wait before it sends them, also where there is no byte.
+    yield sent(in_chunks("d"), typed(TEXT), "Expect: 100-continue", clock={one: 8}), answer(100) + written(one, 9)
+    yield sent(in_chunks(), "Expect: 100-continue", line="GET /ping"), answer(100) + pong()
+    yield request(f"GET {key.target}"), value({one: 9}, "d")
+    # What is wrong with a request but with its body is told as else.
+    yield sent(in_chunks("a"), line="PUT /none"), told(*NO_ROUTE)
+    yield sent(in_chunks("a"), line=f"PUT {key.target}?w=0"), told(*QUERY)
+    yield sent(in_chunks("a"), "Connection: close", line="PUT /ping"), told(*no_method("ping"), closes=True)
+    yield ping(), NOTHING
+    put = f"PUT {key.target} HTTP/1.1\r\n{coded}\r\n\r\n"
+    largest = "a" * 65_536
+    bad = [
+        # no size, no digit, a sign, too many digits, and what stands behind a size
+        "\r\na\r\n0\r\n\r\n", "g\r\n", "-1\r\n", "+1\r\na", "0x1\r\na", " 1\r\na", "10000000000000000\r\n", "1 a\r\n", "1\n", "1\ra", "1;a\nb", "1;\0",
+        # data that don't end where they should
+        "1\r\nab\r\n0\r\n\r\n", "1\r\na\n0\r\n\r\n", "1\r\na\ra", "2\r\na\r\n0\r\n\r\n",
+        # trailers that are none, and too many
+        "0\r\na\r\n\r\n", "0\r\n: b\r\n\r\n", "0\r\nA: b\r\n c\r\n\r\n", "0\r\n" + "A: b\r\n" * 65 + "\r\n",
+        # a trailer section of 32,769 bytes, whole or not
+        "0\r\nX: " + "a" * 32_762 + "\r\n\r\n", "0\r\nX: " + "a" * 32_766,
+        # more than 458,752 bytes, with no end among so many
+        "1" + " " * 458_751,
+        # a bad chunk behind as many data as there may be
+        in_chunks(largest)[:-5] + "x",
+    ]
+    large = [
+        # a byte too many, in one chunk and in its own, whether the end is there or not
+        in_chunks("a" * 65_537), in_chunks(largest)[:-5] + "1\r\na",
+        # one that is bad behind it
+        "10001\r\n" + "a" * 65_537 + "x",
+    ]
+    cut = [
+        "", "1", "1;", "1\r", "1\r\n", "1\r\na", "1\r\na\r", "1\r\na\r\n", "1\r\na\r\n0", "0\r\n", "0\r\n\r", "0\r\nA: b", "0\r\nA: b\r\n", "10001\r\n" + largest,
+        "0\r\nX: " + "a" * 32_765,
+    ]
+    for body in bad:
+        yield NEXT
+        yield from ending(put + body, BAD_LENGTH)
+    for body in large:
+        yield NEXT
+        yield from ending(put + body, LARGE)
+    for body in cut:
+        yield NEXT
+        yield as_bytes(put + body), NOTHING
+    for body, told_by in [
+        # the most data, in one chunk and in chunks of a byte each, and the longest trailer section
+        (in_chunks(largest), pong()),
+        (in_chunks(*largest), pong()),
+        ("0\r\nX: " + "a" * 32_761 + "\r\n\r\n", pong()),
+        ("0\r\n" + "A: b\r\n" * 64 + "\r\n", pong()),
+        # as many bytes as there may be
+        ("1" + " " * 458_741 + "\r\na\r\n0\r\n\r\n", pong()),
+    ]:
+        yield NEXT
+        yield as_bytes(put + body), written(one, 1)
+        yield ping(), told_by
+
+
 def limits():
     """Heads, lines, bodies and names at their limits, and one past them, each on a connection of its own."""
     key = Key("b", "k")
@@ -976,7 +1091,7 @@ def limits():
             going_on("GET /ping HTTP/1.1\r\n" + "A: b\r\n" * 64 + "\r\n", pong()),
             ending("GET /ping HTTP/1.1\r\n" + "A: b\r\n" * 65 + "\r\n", BAD_HEAD),
             # too many lines and a coding
-            ending("POST /ping HTTP/1.1\r\nTransfer-Encoding: chunked\r\n" + "A: b\r\n" * 64 + "\r\n", BAD_HEAD),
+            ending("POST /ping HTTP/1.1\r\nTransfer-Encoding: gzip\r\n" + "A: b\r\n" * 64 + "\r\n", BAD_HEAD),
             # a body of 65,536 bytes, and one that is announced longer
             going_on(f"{put}65536\r\n\r\n" + "a" * 65_536, first),
             cut(f"{put}65536\r\n\r\n" + "a" * 65_535),
@@ -1053,14 +1168,14 @@ def reads():
     both = {one: 1, two: 1}
     yield request(f"GET {key.target}"), choices(both, (one, 1), (two, 1))
     yield request(f"GET {key.target}", as_parts), parts(both, {(one, 1): "a", (two, 1): "b"})
-    yield request(f"{by_tag}{two}-1"), value(both, "b")
+    yield request(f"{by_tag}{two}-1"), value(both, "b", dot=(two, 1))
     yield request(f"{by_tag}{two}-10"), not_found(both)
 
     # Names of fields and words in any case; of a field or a word of a query that stands twice the first counts.
     shown = parts(both, {(one, 1): "a", (two, 1): "b"})
     yield request(f"GET {key.target}", "accept: text/plain, Multipart/Mixed ;q=1"), shown
     yield request(f"GET {key.target}", "Accept: multipart/mixed2,multipart", as_parts), choices(both, (one, 1), (two, 1))
-    yield request(f"{by_tag}{one}-1&vtag={two}-1", as_parts), value(both, "a")
+    yield request(f"{by_tag}{one}-1&vtag={two}-1", as_parts), value(both, "a", dot=(one, 1))
     yield from spelled()
 
     # A delete that has seen the first.
@@ -1278,6 +1393,7 @@ DIALOGUES = {
     "broken": broken,
     "cart": cart,
     "changes": changes,
+    "chunks": chunks,
     "expects": expects,
     "hooks": hooks,
     "images": images,

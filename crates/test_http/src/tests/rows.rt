@@ -7,7 +7,7 @@ pub(crate) type Row = (&'static [u8], &'static [u8]);
 pub(crate) const HTTP_SIBLINGS: [Row; 9] = [
     (
         b"GET /buckets/b/keys/k HTTP/1.1\r\nHost: h\r\n\r\n",
-        b"HTTP/1.1 404 Not Found\r\nContent-Type: text/plain\r\nContent-Length: 10\r\nX-Content-Type-Options: nosniff\r\nServer: dvvstore\r\n\r\nnot found\n",
+        b"HTTP/1.1 404 Not Found\r\nContent-Type: text/plain\r\nContent-Length: 10\r\nX-Content-Type-Options: nosniff\r\nServer: dvvstore\r\nVary: Accept\r\n\r\nnot found\n",
     ),
     (
         b"PUT /buckets/b/keys/k?at=0 HTTP/1.1\r\nHost: h\r\nContent-Type: text/plain\r\nContent-Length: 1\r\n\r\na",
@@ -19,15 +19,15 @@ pub(crate) const HTTP_SIBLINGS: [Row; 9] = [
     ),
     (
         b"GET /buckets/b/keys/k HTTP/1.1\r\nHost: h\r\n\r\n",
-        b"HTTP/1.1 300 Multiple Choices\r\nContent-Type: text/plain\r\nX-Riak-Vclock: AgACAAAAAAAAAAAAAAEBAAAAAAAAAAAAAQ==\r\nContent-Length: 18\r\nX-Content-Type-Options: nosniff\r\nServer: dvvstore\r\n\r\nSiblings:\n0-1\n1-1\n",
+        b"HTTP/1.1 300 Multiple Choices\r\nContent-Type: text/plain\r\nX-Riak-Vclock: AgACAAAAAAAAAAAAAAEBAAAAAAAAAAAAAQ==\r\nContent-Length: 18\r\nX-Content-Type-Options: nosniff\r\nServer: dvvstore\r\nETag: \"AgACAAAAAAAAAAAAAAEBAAAAAAAAAAAAAQ==\"\r\nVary: Accept\r\n\r\nSiblings:\n0-1\n1-1\n",
     ),
     (
         b"GET /buckets/b/keys/k HTTP/1.1\r\nHost: h\r\nAccept: multipart/mixed\r\n\r\n",
-        b"HTTP/1.1 300 Multiple Choices\r\nContent-Type: multipart/mixed; boundary=s0\r\nX-Riak-Vclock: AgACAAAAAAAAAAAAAAEBAAAAAAAAAAAAAQ==\r\nContent-Length: 118\r\nX-Content-Type-Options: nosniff\r\nServer: dvvstore\r\n\r\n\r\n--s0\r\nContent-Type: text/plain\r\nX-Riak-Tag: 0-1\r\n\r\na\r\n--s0\r\nContent-Type: text/plain\r\nX-Riak-Tag: 1-1\r\n\r\nb\r\n--s0--\r\n",
+        b"HTTP/1.1 300 Multiple Choices\r\nContent-Type: multipart/mixed; boundary=s0\r\nX-Riak-Vclock: AgACAAAAAAAAAAAAAAEBAAAAAAAAAAAAAQ==\r\nContent-Length: 118\r\nX-Content-Type-Options: nosniff\r\nServer: dvvstore\r\nETag: \"AgACAAAAAAAAAAAAAAEBAAAAAAAAAAAAAQ==-parts\"\r\nVary: Accept\r\n\r\n\r\n--s0\r\nContent-Type: text/plain\r\nX-Riak-Tag: 0-1\r\n\r\na\r\n--s0\r\nContent-Type: text/plain\r\nX-Riak-Tag: 1-1\r\n\r\nb\r\n--s0--\r\n",
     ),
     (
         b"GET /buckets/b/keys/k?vtag=1-1 HTTP/1.1\r\nHost: h\r\n\r\n",
-        b"HTTP/1.1 200 OK\r\nContent-Type: text/plain\r\nX-Riak-Vclock: AgACAAAAAAAAAAAAAAEBAAAAAAAAAAAAAQ==\r\nContent-Length: 1\r\nX-Content-Type-Options: nosniff\r\nServer: dvvstore\r\n\r\nb",
+        b"HTTP/1.1 200 OK\r\nContent-Type: text/plain\r\nX-Riak-Vclock: AgACAAAAAAAAAAAAAAEBAAAAAAAAAAAAAQ==\r\nContent-Length: 1\r\nX-Content-Type-Options: nosniff\r\nServer: dvvstore\r\nETag: \"1-1\"\r\nVary: Accept\r\n\r\nb",
     ),
     (
         b"PUT /buckets/b/keys/k HTTP/1.1\r\nHost: h\r\nX-Riak-Vclock: AQABAAAAAQAAAAAAAAPo\r\nContent-Length: 1\r\n\r\nx",
@@ -39,7 +39,7 @@ pub(crate) const HTTP_SIBLINGS: [Row; 9] = [
     ),
     (
         b"GET /buckets/b/keys/k HTTP/1.1\r\nHost: h\r\n\r\n",
-        b"HTTP/1.1 300 Multiple Choices\r\nContent-Type: text/plain\r\nX-Riak-Vclock: AgACAAAAAAAAAAAAAAIBAAAAAAAAAAAAAQ==\r\nContent-Length: 18\r\nX-Content-Type-Options: nosniff\r\nServer: dvvstore\r\n\r\nSiblings:\n0-2\n1-1\n",
+        b"HTTP/1.1 300 Multiple Choices\r\nContent-Type: text/plain\r\nX-Riak-Vclock: AgACAAAAAAAAAAAAAAIBAAAAAAAAAAAAAQ==\r\nContent-Length: 18\r\nX-Content-Type-Options: nosniff\r\nServer: dvvstore\r\nETag: \"AgACAAAAAAAAAAAAAAIBAAAAAAAAAAAAAQ==\"\r\nVary: Accept\r\n\r\nSiblings:\n0-2\n1-1\n",
     ),
 ];
 
@@ -95,7 +95,7 @@ pub(crate) const RESOLVERS: [Row; 6] = [
     ),
     (
         b"GET /buckets/c/keys/k HTTP/1.1\r\nHost: h\r\n\r\n",
-        b"HTTP/1.1 200 OK\r\nContent-Type: text/plain\r\nX-Riak-Vclock: AgACAAAAAAAAAAAAAAIBAAAAAAAAAAAAAQ==\r\nContent-Length: 1\r\nX-Content-Type-Options: nosniff\r\nServer: dvvstore\r\n\r\na",
+        b"HTTP/1.1 200 OK\r\nContent-Type: text/plain\r\nX-Riak-Vclock: AgACAAAAAAAAAAAAAAIBAAAAAAAAAAAAAQ==\r\nContent-Length: 1\r\nX-Content-Type-Options: nosniff\r\nServer: dvvstore\r\nETag: \"0-2\"\r\nVary: Accept\r\n\r\na",
     ),
     (
         b"DELETE /hooks/take HTTP/1.1\r\nHost: h\r\n\r\n",

@@ -2,8 +2,8 @@ use Rattle.std.proofs.Common.{refl, ◌∙◌, rules}
 use Rattle.http_parse.proofs.RequestLemmas.{no_target}
 use Rattle.http_parse.proofs.request.request_at.Goals as goal
 
-pub returns-in-None : goal.returns-in-None
-returns-in-None c =
+pub returns-in-None-clause-finds : goal.returns-in-None-clause-finds
+returns-in-None-clause-finds c =
     let h = c.requires.head.1 in rw c.no_head.ensures (
       c.requires.head.0.section.len_fits,
       λ e. absurd (search (e, rules)),

@@ -20,10 +20,10 @@ type Exchange = (&'static [u8], &'static [u8]);
 const READ: &[u8] = b"GET /buckets/b/keys/k HTTP/1.1\r\nHost: h\r\n\r\n";
 
 const NOTHING: &[u8] =
-    b"HTTP/1.1 404 Not Found\r\nContent-Type: text/plain\r\nContent-Length: 10\r\nX-Content-Type-Options: nosniff\r\nServer: dvvstore\r\n\r\nnot found\n";
+    b"HTTP/1.1 404 Not Found\r\nContent-Type: text/plain\r\nContent-Length: 10\r\nX-Content-Type-Options: nosniff\r\nServer: dvvstore\r\nVary: Accept\r\n\r\nnot found\n";
 
 const FOUND: &[u8] =
-    b"HTTP/1.1 200 OK\r\nContent-Type: text/plain\r\nX-Riak-Vclock: AgABAAAAAAAAAAAAAAE=\r\nContent-Length: 1\r\nX-Content-Type-Options: nosniff\r\nServer: dvvstore\r\n\r\na";
+    b"HTTP/1.1 200 OK\r\nContent-Type: text/plain\r\nX-Riak-Vclock: AgABAAAAAAAAAAAAAAE=\r\nContent-Length: 1\r\nX-Content-Type-Options: nosniff\r\nServer: dvvstore\r\nETag: \"0-1\"\r\nVary: Accept\r\n\r\na";
 
 /// A write, a hook that refuses all and is bound, a write that it refuses, and a read, one after the other on one store.
 const EXCHANGES: [Exchange; 5] = [
