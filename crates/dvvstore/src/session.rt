@@ -235,6 +235,7 @@ fn begin<B: Room + Spot + Send + Sync, R: Threads + Wait + Sync, N, F: Copy, L>(
     };
     let (cluster, mut passes) = Cluster::<B>::open(alloc, seed, stamps, card, &size)?;
     let loaders = loaders_of(alloc, &mut passes, vnodes)?;
+    let of_workers = dealt(alloc, &mut passes, workers)?;
     let fronts = stay.fronts(alloc, vnodes)?;
     let start = Start {
         seed,
@@ -253,13 +254,14 @@ fn begin<B: Room + Spot + Send + Sync, R: Threads + Wait + Sync, N, F: Copy, L>(
     };
     Ok(Vnodes {
         cluster,
-        passes: dealt(alloc, passes, workers)?,
+        passes: of_workers,
         lookout,
         begun,
     })
 }
 
-/// How many passes there are: two for each worker, by one of which it reads what it wrote, one for each vnode, by which that takes over what it begins with, and the follower's.
+/// How many passes there are: two for each worker, by one of which it reads what it wrote, one for each vnode, by which that takes over what
+/// it begins with, and the follower's.
 fn passes_for(workers: usize, spread: Spread) -> usize
     requires { workers ≤ 16 }
     ensures { result ≡ 2 * workers + spread.vnodes + 1 }
@@ -289,14 +291,16 @@ fn loaders_of<B: Room>(
     Ok(loaders)
 }
 
-/// The passes of so many workers: two for each, the last of some that were told nothing yet.
+/// The passes of so many workers, two for each, with the last of some.
 fn dealt<B: Room>(
     alloc: Global,
-    mut passes: Vec<Pass<B>>,
+    passes: &mut Vec<Pass<B>>,
     workers: usize,
 ) -> Result<Vec<Passes<B>>, AllocError>
-    requires enough { 2 * workers ≤ vec_len passes }
-    requires fresh { All (λ p. p ≡ pass_view 0 []) passes.items }
+    requires enough { 2 * workers ≤ vec_len passes.old }
+    requires fresh { All (λ p. p ≡ pass_view 0 []) passes.old.items }
+    ensures left { OnOk result (vec_len passes.new + 2 * workers ≡ vec_len passes.old) }
+    ensures fresh { OnOk result (All (λ p. p ≡ pass_view 0 []) passes.new.items) }
     ensures count { IfOk result (λ dealt. vec_len dealt ≡ workers) }
 {
     let mut dealt = Vec::new(alloc);

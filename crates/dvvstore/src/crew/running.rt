@@ -142,9 +142,10 @@ pub struct Served {
 /// the passes that brought these. Where no fronts are named nothing was there before. Once all workers have ended, the cluster is gathered,
 /// and what is left of the journals is followed; the vnodes are handed back, whatever is said of them. In their journals stands what the
 /// workers were told, what these passes had been told before and then of reads, what workers only read, so that the ledger has it, and what
-/// the watch was told, which has vnodes hand out and start again and does nothing else. Each answer of a worker tells of these journals, by the receipts of its own calls: a read's is
-/// current among what they had brought before, and a write's dot is that of its entry, which as many vnodes as were asked for know. Where
-/// the journals are one run from their first entries on, these calls are steps of it, one behind the other.
+/// the watch was told, which has vnodes hand out and start again and does nothing else. Each answer of a worker tells of these journals, by
+/// the receipts of its own calls: a read's is current among what they had brought before, and a write's dot is that of its entry, which as
+/// many vnodes as were asked for know. Where the journals are one run from their first entries on, these calls are steps of it, one behind
+/// the other.
 ///
 /// The error: memory was refused before the vnodes were gathered, and they are lost; some workers may have answered no connection then.
 pub fn serve<

@@ -198,8 +198,8 @@ impl<'a, B: Room, R: Wait, L: Ledger> Scribe<'a, B, R, L> {
         }
     }
 
-    /// Keeps what was noted, at a time in milliseconds. What is told to be kept has been put down, with what turns before couldn't put down,
-    /// and the ledger has shown that it is kept; and nothing is left that was lost, nor hooks that aren't kept.
+    /// Keeps what was noted, at a time in milliseconds. Where all of it is told to be kept, it was put down, with what turns before couldn't
+    /// put down, and the ledger has shown that it is kept; nothing is left that was lost, nor hooks that aren't kept.
     pub(crate) fn keep(&mut self, now: u64) -> Logged
         ensures kept { result ≡ Logged.All → IsMoreKept L.put L.shows self.old.desk.ledger.now self.old.sheet self.old.records self.old.receipt }
         ensures all { result ≡ Logged.All → (self.new.records ≡ 0) × (self.new.receipt ≡ None) × (self.new.lost ≡ None) × (self.new.has_hooks ≡ false) }

@@ -349,8 +349,8 @@ fn keep_turn<B: Room, K: Backend, R: Wait, L: Ledger>(
     }
 }
 
-/// One turn of a worker over a store, behind which what it noted is kept and it lets a connection go where it is asked to and tells what went wrong. Whether it goes
-/// on.
+/// One turn of a worker over a store. Behind it what it noted is kept, it lets a connection go where it is asked to, and tells what went
+/// wrong. Whether it goes on.
 fn take_turn<
     B: Room + Spot,
     P: Peers,

@@ -2,6 +2,7 @@ use Rattle.std.proofs.Common.{◌≡◌, ◌∙◌, sym, refl, arith, length, ve
 use Rattle.std.proofs.lemmas.Iterator.Adapters.{YieldsList-from_vec}
 use Rattle.std.proofs.lemmas.Iterator.Consumers.{YieldsList-end}
 use Rattle.std.proofs.lemmas.Grind.{common_steps}
+use Rattle.std.proofs.lemmas.List.{map-append}
 use Rattle.dvvstore.specs.Crews.{by_digest}
 use Rattle.dvvstore.proofs.Taking.{made_one, all_made_one, taken_one, all_taken}
 use Rattle.dvvstore.proofs.session.seats_of.Goals as goal
@@ -9,7 +10,7 @@ use Rattle.dvvstore.proofs.session.seats_of.Goals as goal
 pub loop-worker-preserved : goal.loop-worker-preserved
 loop-worker-preserved g c = record {
   can = (tt, tt);
-  seats = made_one (λ s. s.pass) _ _ _ _ _ c.loop-worker.invariant.seats c.push_reserved.ensures.items refl;
+  seats = made_one (λ s. s.pass) _ _ _ _ _ c.loop-worker.invariant.seats c.push_reserved.ensures.items refl ∙ sym (map-append (λ p. p.pass) _ _);
   count = grind (arith, common_steps);
   room = grind (arith, common_steps);
   tables = taken_one (λ s. s.hooking.table) _ _ _ _ _ _ _ c.loop-worker.invariant.tables c.in-Some-Some.ensures.items c.push_reserved.ensures.items c.new.ensures.table;
