@@ -61,7 +61,7 @@ pub fn open<F: LogFolder + Drop, J: Naming>(
         sync,
         folder: Mutex::new(folder),
         tray: Mutex::new(Tray::new(alloc, LogBuffer::new(alloc, book, &none))),
-        pen: Mutex::new(Pen::new(log, &none, oldest, newest)),
+        pen: Mutex::new(Pen::new(log, oldest, newest)),
         is_wanted: AtomicBool::new(false),
         begun: AtomicU64::new(0),
         whole: AtomicU64::new(0),

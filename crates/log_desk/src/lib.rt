@@ -11,6 +11,6 @@ mod pen;
 mod tray;
 
 pub use desk::{Desk, open};
-pub use kept::Kept;
+pub use kept::{Covered, Kept};
 pub use ledger::{Ledger, NoLedger, Pages};
 pub use page::{Page, PageFault};
