@@ -1,6 +1,7 @@
 //! The folder of a store that is kept, in the system's files.
 
-use kept_folder::{FileFault, Folder, LogFolder};
+use kept_folder::{FileFault, Folder, LogFolder, keep_requests};
+use log_desk::HooksFile;
 use log_system::SystemLog;
 use std::alloc::{AllocError, Global};
 use std::fs::OpenFile as _;
@@ -257,6 +258,14 @@ impl LogFolder for SystemFolder<'_> {
         self.look()?;
         let path = self.log_path(number)?;
         done(fs::remove_file(self.rt, path.as_str()))
+    }
+}
+
+impl HooksFile for SystemFolder<'_> {
+    ghost keeps = { λ _ _ _. Unit {0} };
+
+    fn keep_hooks(&mut self, alloc: Global, requests: &[u8]) -> bool {
+        keep_requests(alloc, self, Some(requests)).is_ok()
     }
 }
 
