@@ -1,25 +1,23 @@
 -- What a pen has of its log.
 use Rattle.std.specs.Prelude.{◌≡◌, ℕ, Bool, true, false, List, [], ◌∷◌, ◌++◌}
 use Rattle.kept_file.specs.Files.{end_of}
-use Rattle.log_file.specs.declared.device.Device as device
 use Rattle.log_writer.specs.declared.sheet.Sheet.{Sheet}
 use Rattle.record_codec.specs.Lists.{AreSpelledBy}
-use Rattle.shared_prefix.specs.declared.prefix.Naming as naming
 use Rattle.log_desk.specs.declared.pen.Current.{Current}
 use Rattle.log_desk.specs.declared.pen.Current.TheVariants.{GivenUp, Open}
 
-module _ {D J : Type 0} {d : device.Ghosts D} {j : naming.Ghosts J} where
+module _ {D J : Type 0} where
   -- the list behind which the next batch is written
-  abbrev pub written_of : Current D J d j → List Sheet
+  abbrev pub written_of : Current D J → List Sheet
   written_of (Open log) = log.written
   written_of (GivenUp list) = list
 
   -- the list of those that were forced
-  abbrev pub forced_of : Current D J d j → List Sheet
+  abbrev pub forced_of : Current D J → List Sheet
   forced_of (Open log) = log.forced
   forced_of (GivenUp list) = []
 
-  abbrev pub is_given_up : Current D J d j → Bool
+  abbrev pub is_given_up : Current D J → Bool
   is_given_up (Open log) = false
   is_given_up (GivenUp list) = true
 
