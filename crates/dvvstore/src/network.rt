@@ -28,7 +28,7 @@ use kept_folder::{
     FileFault, Folder, Held, LogFolder, Logs, OpenFault, Opened, Unreplaced, keep_all, keep_number,
 };
 use kept_hooks::Requests;
-use log_desk::{NoLedger, PageFault, Pages};
+use log_desk::{HooksFile, NoLedger, PageFault, Pages};
 use log_writer::Sheet;
 use server_accept::{Bound, Setup, open, tell_listening};
 use shared_prefix::Naming;
@@ -226,7 +226,7 @@ struct Keeping<'a, N> {
 fn keep_over<
     R: Threads + Wait + Sync,
     N: Net<Listener = TcpListener, Stream = TcpStream>,
-    F: Folder + LogFolder + Copy + Send + Sync,
+    F: Folder + LogFolder + HooksFile + Copy + Send + Sync,
     O: Write,
 >(
     host: &Host<'_, R>,
@@ -261,7 +261,7 @@ fn keep_logged<
     J: Naming + Send + Sync,
     R: Threads + Wait + Sync,
     N: Net<Listener = TcpListener, Stream = TcpStream>,
-    F: Folder + LogFolder + Copy + Send + Sync,
+    F: Folder + LogFolder + HooksFile + Copy + Send + Sync,
     O: Write,
 >(
     host: &Host<'_, R>,

@@ -1,12 +1,11 @@
 //! The folder of a store that is kept, in the system's files.
 
-ghost use Rattle.std.specs.Prelude.{[], true};
-
-use kept_folder::{FileFault, Folder, LogFolder};
-use log_file::{Device, DeviceFault};
+use kept_folder::{FileFault, Folder, LogFolder, keep_requests};
+use log_desk::HooksFile;
+use log_system::SystemLog;
 use std::alloc::{AllocError, Global};
 use std::fs::OpenFile as _;
-use std::io::{ErrorKind, Read as _, Write as _};
+use std::io::{ErrorKind, Read as _};
 use std::os::unix::fs::MetadataExt as _;
 use std::{fs, io};
 use thiserror::Error;
@@ -212,49 +211,6 @@ impl Folder for SystemFolder<'_> {
     }
 }
 
-/// The file of a log, in the system's files.
-#[derive(Drop)]
-pub struct SystemLog {
-    file: fs::File,
-}
-
-impl Device for SystemLog {
-    ghost seen = { λ _. [] };
-
-    ghost may_leave = { λ _ _. Unit {0} };
-
-    ghost moment = { λ _. 0 };
-
-    ghost left_since = { λ _ _ _. Unit {0} };
-
-    ghost is_trusted = { λ _. true };
-
-    ghost faults = { λ _. 0 };
-
-    ghost only_now = { λ _ _ _. tt };
-
-    fn append(&mut self, bytes: &[u8]) -> Result<(), DeviceFault> {
-        made(self.file.write_all(bytes))
-    }
-
-    fn cut(&mut self, len: usize) -> Result<(), DeviceFault> {
-        made(self.file.set_len(len as u64))
-    }
-
-    fn force(&mut self) -> Result<(), DeviceFault> {
-        made(self.file.sync_data())
-    }
-}
-
-/// What an operation on a log came to.
-fn made(came: io::Result<()>) -> Result<(), DeviceFault> {
-    match came {
-        Ok(()) => Ok(()),
-        Err(error) if error.kind() == ErrorKind::StorageFull => Err(DeviceFault::Full),
-        Err(_) => Err(DeviceFault::Failed),
-    }
-}
-
 impl SystemFolder<'_> {
     // The path of the log with a number.
     fn log_path(&self, number: u64) -> Result<String, FileFault> {
@@ -281,7 +237,7 @@ impl LogFolder for SystemFolder<'_> {
             .open(self.rt, path.as_str());
         let file = done(opened)?;
         self.force_names()?;
-        Ok(SystemLog { file })
+        Ok(SystemLog::over(file, &[]))
     }
 
     fn open_log(&self, alloc: Global, number: u64) -> Result<(SystemLog, Vec<u8>), FileFault> {
@@ -294,13 +250,22 @@ impl LogFolder for SystemFolder<'_> {
             .append(true)
             .open(self.rt, path.as_str());
         let file = done(opened)?;
-        Ok((SystemLog { file }, bytes))
+        let log = SystemLog::over(file, &bytes);
+        Ok((log, bytes))
     }
 
     fn remove_log(&mut self, number: u64) -> Result<(), FileFault> {
         self.look()?;
         let path = self.log_path(number)?;
         done(fs::remove_file(self.rt, path.as_str()))
+    }
+}
+
+impl HooksFile for SystemFolder<'_> {
+    ghost keeps = { λ _ _ _. Unit {0} };
+
+    fn keep_hooks(&mut self, alloc: Global, requests: &[u8]) -> bool {
+        keep_requests(alloc, self, Some(requests)).is_ok()
     }
 }
 

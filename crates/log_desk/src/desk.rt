@@ -5,12 +5,13 @@ ghost use Rattle.log_writer.specs.declared.sheet.Sheet.{Sheet as OneSheet};
 ghost use Rattle.log_desk.specs.Keeping.{IsKeptAs};
 ghost use Rattle.shared_prefix.specs.Lists.{book_of};
 
+use crate::hooks_file::HooksFile;
 use crate::kept::Kept;
 use crate::ledger::{Ledger, Pages};
 use crate::page::{Page, PageFault};
-use crate::pen::{Pen, Stuck};
+use crate::pen::Pen;
 use crate::tray::Tray;
-use kept_folder::{FileFault, Folder, LogFolder, Logs, SyncPolicy, end_log, keep_requests};
+use kept_folder::{FileFault, Folder, LogFolder, Logs, SyncPolicy, end_log};
 use log_file::LogFile;
 use log_writer::{LogBuffer, LogWriter, Receipt, Sheet};
 use shared_prefix::{Naming, Opened};
@@ -61,14 +62,14 @@ pub fn open<F: LogFolder + Drop, J: Naming>(
         sync,
         folder: Mutex::new(folder),
         tray: Mutex::new(Tray::new(alloc, LogBuffer::new(alloc, book, &none))),
-        pen: Mutex::new(Pen::new(log, &none, oldest, newest)),
+        pen: Mutex::new(Pen::new(log, oldest, newest)),
         is_wanted: AtomicBool::new(false),
         begun: AtomicU64::new(0),
         whole: AtomicU64::new(0),
     })
 }
 
-impl<F: Folder + LogFolder, J: Naming> Ledger for Desk<F, J> {
+impl<F: LogFolder + HooksFile, J: Naming> Ledger for Desk<F, J> {
     type Receipt = Receipt<J>;
 
     type Kept = Kept<J>;
@@ -105,8 +106,7 @@ impl<F: Folder + LogFolder, J: Naming> Ledger for Desk<F, J> {
     }
 
     fn keep_hooks<R: Wait>(&self, rt: &R, requests: &[u8]) -> bool {
-        let mut folder = self.folder.lock(rt);
-        keep_requests(self.alloc, &mut *folder, Some(requests)).is_ok()
+        self.folder.lock(rt).keep_hooks(self.alloc, requests)
     }
 
     fn begun(&self) -> u64 {
@@ -122,7 +122,7 @@ impl<F: Folder + LogFolder, J: Naming> Ledger for Desk<F, J> {
     }
 }
 
-impl<F: Folder + LogFolder, J: Naming> Pages for Desk<F, J> {
+impl<F: Folder + LogFolder + HooksFile, J: Naming> Pages for Desk<F, J> {
     fn wanted<R: Wait>(&self, rt: &R) -> Option<PageFault> {
         let pen = self.pen.lock(rt);
         if pen.is_stuck || pen.is_given_up() {
@@ -137,7 +137,13 @@ impl<F: Folder + LogFolder, J: Naming> Pages for Desk<F, J> {
         let mut folder = self.folder.lock(rt);
         let mut pen = self.pen.lock(rt);
         let last = pen.newest;
-        if turn_over(rt, &mut *pen, &self.tray, &mut *folder, now).is_err() {
+        let has_ended = pen.end(rt, &self.tray, now).is_ok();
+        let has_begun = has_ended
+            && match folder.begin_log(last.saturating_add(1)) {
+                Ok(device) => pen.go_on(device).is_ok(),
+                Err(_) => false,
+            };
+        if !has_begun {
             pen.give_up(rt, &self.tray);
         }
         Page { last, snapshot }
@@ -146,12 +152,13 @@ impl<F: Folder + LogFolder, J: Naming> Pages for Desk<F, J> {
     fn settle<R: Wait>(&self, rt: &R, page: Page) -> Result<(), PageFault> {
         let mut folder = self.folder.lock(rt);
         let oldest = self.pen.lock(rt).oldest;
-        let left = remove_logs(&mut *folder, oldest, page.last);
-        let mut pen = self.pen.lock(rt);
-        pen.oldest = left.oldest;
-        if let Some(fault) = left.fault {
-            return Err(fault);
+        for number in oldest..=page.last {
+            if folder.remove_log(number).is_err() {
+                return Err(PageFault::Unremoved(number));
+            }
+            self.pen.lock(rt).oldest = number.saturating_add(1);
         }
+        let mut pen = self.pen.lock(rt);
         if pen.is_given_up() {
             let next = pen.newest.saturating_add(1);
             if folder.force_names().is_err() {
@@ -169,49 +176,11 @@ impl<F: Folder + LogFolder, J: Naming> Pages for Desk<F, J> {
     fn close<R: Wait>(&self, rt: &R) -> Result<(), PageFault> {
         let mut folder = self.folder.lock(rt);
         let pen = self.pen.lock(rt);
-        match remove_logs(&mut *folder, pen.oldest, pen.newest).fault {
-            Some(fault) => Err(fault),
-            None => Ok(()),
+        for number in pen.oldest..=pen.newest {
+            if folder.remove_log(number).is_err() {
+                return Err(PageFault::Unremoved(number));
+            }
         }
-    }
-}
-
-/// Ends the log in order, and begins the next.
-fn turn_over<F: LogFolder, J: Naming, R: Wait>(
-    rt: &R,
-    pen: &mut Pen<F::Log, J>,
-    tray: &Mutex<Tray<J>>,
-    folder: &mut F,
-    now: u64,
-) -> Result<(), Stuck> {
-    pen.end(rt, tray, now)?;
-    match folder.begin_log(pen.newest.saturating_add(1)) {
-        Ok(device) => pen.go_on(device),
-        Err(_) => Err(Stuck),
-    }
-}
-
-/// What is left of logs that were to be removed.
-#[derive(Clone, Copy)]
-struct Removed {
-    /// The number of the oldest log that may be left.
-    oldest: u64,
-    /// Why one of them couldn't be removed.
-    fault: Option<PageFault>,
-}
-
-/// Removes the logs from a number up to another, the oldest first: so those that are left have no gap in their numbers.
-fn remove_logs<F: LogFolder>(folder: &mut F, first: u64, last: u64) -> Removed {
-    for number in first..=last {
-        if folder.remove_log(number).is_err() {
-            return Removed {
-                oldest: number,
-                fault: Some(PageFault::Unremoved(number)),
-            };
-        }
-    }
-    Removed {
-        oldest: last.saturating_add(1),
-        fault: None,
+        Ok(())
     }
 }

@@ -3,6 +3,7 @@
 #![tactic(auto)]
 
 mod desk;
+mod hooks_file;
 mod kept;
 mod ledger;
 mod limits;
@@ -11,6 +12,7 @@ mod pen;
 mod tray;
 
 pub use desk::{Desk, open};
-pub use kept::Kept;
+pub use hooks_file::HooksFile;
+pub use kept::{Covered, Kept};
 pub use ledger::{Ledger, NoLedger, Pages};
 pub use page::{Page, PageFault};

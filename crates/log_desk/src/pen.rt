@@ -1,9 +1,11 @@
 //! The pen: whoever has it writes the log.
 
-ghost use Rattle.std.specs.Prelude.{◌≡◌, IsTrue, IfSome};
+ghost use Rattle.std.specs.Prelude.{◌≡◌, None, Some, false, true, IfSome, IsTrue, OnErr, OnOk};
+ghost use Rattle.kept_folder.specs.declared.settings.SyncPolicy.{SyncPolicy as OnePolicy};
 ghost use Rattle.log_desk.specs.Keeping.{IsKeptAs, is_due};
+ghost use Rattle.log_desk.specs.Pens.{forced_of, is_given_up, written_of, IsEnded};
 
-use crate::kept::Kept;
+use crate::kept::{Covered, Kept};
 use crate::limits::SYNC_INTERVAL_MS;
 use crate::tray::Tray;
 use kept_folder::SyncPolicy;
@@ -16,17 +18,24 @@ use std::sync::{Mutex, Wait};
 #[derive(Clone, Copy, Debug, PartialEq, Eq)]
 pub(crate) struct Stuck;
 
+/// The log that is written.
+#[derive(Drop)]
+pub(crate) enum Current<D: Device + Drop, J: Naming> {
+    /// This one.
+    Open(LogWriter<D, J>),
+    /// None, since it was given up: the next one begins behind these sheets, which no log has from where this one ended.
+    GivenUp(Front<Sheet, J>),
+}
+
 /// What writes the log, what it has written, and what it has forced.
 #[derive(Drop)]
 pub(crate) struct Pen<D: Device + Drop, J: Naming> {
-    /// The log; none where it was given up, until the next one begins.
-    log: Option<LogWriter<D, J>>,
-    /// The list that the next log goes on behind, where one was given up.
-    earlier: Front<Sheet, J>,
+    log: Current<D, J>,
     /// What was taken to be written and isn't yet.
     batch: Option<Batch<J>>,
     written: Option<Written<J>>,
     forced: Option<Forced<J>>,
+    covered: Option<Covered<J>>,
     /// Whether something was written since it was forced last.
     is_behind: bool,
     /// When it was forced last, in milliseconds.
@@ -39,19 +48,14 @@ pub(crate) struct Pen<D: Device + Drop, J: Naming> {
 }
 
 impl<D: Device + Drop, J: Naming> Pen<D, J> {
-    /// The pen of a log with a number that begins behind a list, where the oldest log that there is has that number.
-    pub(crate) fn new(
-        log: LogWriter<D, J>,
-        earlier: &Front<Sheet, J>,
-        oldest: u64,
-        newest: u64,
-    ) -> Pen<D, J> {
+    /// The pen of a log with a number, where the oldest log that there is has that number.
+    pub(crate) fn new(log: LogWriter<D, J>, oldest: u64, newest: u64) -> Pen<D, J> {
         Pen {
-            log: Some(log),
-            earlier: earlier.again(),
+            log: Current::Open(log),
             batch: None,
             written: None,
             forced: None,
+            covered: None,
             is_behind: false,
             forced_at: 0,
             oldest,
@@ -61,14 +65,23 @@ impl<D: Device + Drop, J: Naming> Pen<D, J> {
     }
 
     /// Whether the log was given up.
-    pub(crate) fn is_given_up(&self) -> bool {
-        self.log.is_none()
+    pub(crate) fn is_given_up(&self) -> bool
+        ensures { result ≡ is_given_up self.now.log }
+    {
+        match &self.log {
+            Current::Open(_) => false,
+            Current::GivenUp(_) => true,
+        }
     }
 
     /// What shows that the sheet of a receipt is kept, as is set, if it is.
     pub(crate) fn kept(&self, sync: SyncPolicy, receipt: &Receipt<J>) -> Option<Kept<J>>
         ensures { IfSome result (IsKeptAs sync receipt.now) }
     {
+        let covered = covered_with(self.covered.as_ref(), receipt);
+        if covered.is_some() {
+            return covered;
+        }
         match sync {
             SyncPolicy::Always => forced_with(self.forced.as_ref(), receipt),
             SyncPolicy::EverySecond | SyncPolicy::Never => {
@@ -77,14 +90,17 @@ impl<D: Device + Drop, J: Naming> Pen<D, J> {
         }
     }
 
-    /// Writes what waits, and forces it where that is due at a time in milliseconds.
+    /// Writes what waits, and forces it where that is due at a time in milliseconds. Where that succeeds nothing waits that was taken.
     pub(crate) fn work<R: Wait>(
         &mut self,
         rt: &R,
         tray: &Mutex<Tray<J>>,
         sync: SyncPolicy,
         now: u64,
-    ) -> Result<(), Stuck> {
+    ) -> Result<(), Stuck>
+        ensures all { OnOk result (self.new.batch ≡ None) }
+        ensures covered { self.new.covered ≡ self.old.covered }
+    {
         self.write(rt, tray)?;
         if is_due(sync, now.saturating_sub(self.forced_at)) {
             self.force(now)?;
@@ -93,7 +109,10 @@ impl<D: Device + Drop, J: Naming> Pen<D, J> {
     }
 
     /// Forces what was written, where that is due once a second and isn't done.
-    pub(crate) fn force_due(&mut self, now: u64) -> Result<(), Stuck> {
+    pub(crate) fn force_due(&mut self, now: u64) -> Result<(), Stuck>
+        ensures batch { self.new.batch ≡ self.old.batch }
+        ensures covered { self.new.covered ≡ self.old.covered }
+    {
         if self.is_behind && is_due(SyncPolicy::EverySecond, now.saturating_sub(self.forced_at)) {
             self.force(now)?;
         }
@@ -107,7 +126,12 @@ impl<D: Device + Drop, J: Naming> Pen<D, J> {
         rt: &R,
         tray: &Mutex<Tray<J>>,
         now: u64,
-    ) -> Result<(), Stuck> {
+    ) -> Result<(), Stuck>
+        ensures all { OnOk result (self.new.batch ≡ None) }
+        ensures ended { OnOk result (IsEnded (written_of self.new.log)) }
+        ensures forced { OnOk result (forced_of self.new.log ≡ written_of self.new.log) }
+        ensures covered { self.new.covered ≡ self.old.covered }
+    {
         self.write(rt, tray)?;
         let Some(last) = tray.lock(rt).end() else {
             return Err(Stuck);
@@ -119,8 +143,11 @@ impl<D: Device + Drop, J: Naming> Pen<D, J> {
     /// The next log begins behind this one, which has ended.
     pub(crate) fn go_on(&mut self, device: D) -> Result<(), Stuck>
         requires trusted { IsTrue (D.is_trusted device) }
+        ensures behind { written_of self.new.log ≡ written_of self.old.log }
+        ensures batch { self.new.batch ≡ self.old.batch }
+        ensures covered { self.new.covered ≡ self.old.covered }
     {
-        let Some(log) = &mut self.log else {
+        let Current::Open(log) = &mut self.log else {
             return Err(Stuck);
         };
         match log.begin(LogFile::new(device, 0)) {
@@ -132,26 +159,43 @@ impl<D: Device + Drop, J: Naming> Pen<D, J> {
         }
     }
 
-    /// Gives the log up: nothing more is written to it. What waits goes to no log.
-    pub(crate) fn give_up<R: Wait>(&mut self, rt: &R, tray: &Mutex<Tray<J>>) {
+    /// Gives the log up: nothing more is written to it. What waits goes to no log, and isn't told to be kept before the next one begins.
+    pub(crate) fn give_up<R: Wait>(&mut self, rt: &R, tray: &Mutex<Tray<J>>)
+        ensures given_up { is_given_up self.new.log ≡ true }
+        ensures waits { self.new.batch ≡ None }
+        ensures written { self.new.written ≡ self.old.written }
+        ensures forced { self.new.forced ≡ self.old.forced }
+        ensures covered { self.new.covered ≡ self.old.covered }
+    {
         let waiting = tray.lock(rt).give_up();
-        self.earlier = waiting.upto().again();
+        self.log = Current::GivenUp(waiting.upto().again());
         self.batch = None;
-        self.log = None;
     }
 
-    /// The next log begins, where one was given up and what that had, or was to have, is kept by other files.
+    /// The next log begins, where one was given up and a snapshot that began later is whole: so that has what the one given up had, or was to
+    /// have.
     pub(crate) fn begin_again(&mut self, device: D)
         requires trusted { IsTrue (D.is_trusted device) }
+        ensures goes_on { is_given_up self.new.log ≡ false }
+        ensures behind { written_of self.new.log ≡ written_of self.old.log }
+        ensures covered { is_given_up self.old.log ≡ true → self.new.covered ≡ Some (written_of self.old.log) }
     {
-        self.log = Some(LogWriter::new(LogFile::new(device, 0), &self.earlier));
+        let Current::GivenUp(list) = &self.log else {
+            return;
+        };
+        let log = LogWriter::new(LogFile::new(device, 0), list);
+        self.covered = Some(Covered::new(list.again()));
+        self.log = Current::Open(log);
         self.newest = self.newest.saturating_add(1);
         self.is_stuck = false;
     }
 
     // Writes what waits: first what was taken before.
-    fn write<R: Wait>(&mut self, rt: &R, tray: &Mutex<Tray<J>>) -> Result<(), Stuck> {
-        if self.log.is_none() {
+    fn write<R: Wait>(&mut self, rt: &R, tray: &Mutex<Tray<J>>) -> Result<(), Stuck>
+        ensures all { OnOk result (self.new.batch ≡ None) }
+        ensures covered { self.new.covered ≡ self.old.covered }
+    {
+        if self.is_given_up() {
             return Err(Stuck);
         }
         if let Some(batch) = self.batch.take() {
@@ -162,8 +206,15 @@ impl<D: Device + Drop, J: Naming> Pen<D, J> {
     }
 
     // Writes a batch. One that can't be written is kept, to be written first.
-    fn write_batch(&mut self, batch: Batch<J>) -> Result<(), Stuck> {
-        let Some(log) = &mut self.log else {
+    fn write_batch(&mut self, batch: Batch<J>) -> Result<(), Stuck>
+        ensures in_turn { OnOk result (batch.before ≡ written_of self.old.log) }
+        ensures written { OnOk result (written_of self.new.log ≡ batch.upto) }
+        ensures waits { OnErr result (self.new.batch ≡ Some batch) }
+        ensures batch { OnOk result (self.new.batch ≡ self.old.batch) }
+        ensures covered { self.new.covered ≡ self.old.covered }
+    {
+        let Current::Open(log) = &mut self.log else {
+            self.batch = Some(batch);
             return Err(Stuck);
         };
         match log.write(&batch) {
@@ -180,8 +231,13 @@ impl<D: Device + Drop, J: Naming> Pen<D, J> {
     }
 
     // Forces what was written.
-    fn force(&mut self, now: u64) -> Result<(), Stuck> {
-        let Some(log) = &mut self.log else {
+    fn force(&mut self, now: u64) -> Result<(), Stuck>
+        ensures forced { OnOk result (forced_of self.new.log ≡ written_of self.old.log) }
+        ensures written { written_of self.new.log ≡ written_of self.old.log }
+        ensures batch { self.new.batch ≡ self.old.batch }
+        ensures covered { self.new.covered ≡ self.old.covered }
+    {
+        let Current::Open(log) = &mut self.log else {
             return Err(Stuck);
         };
         match log.force() {
@@ -216,6 +272,18 @@ fn written_with<J: Naming>(written: Option<&Written<J>>, receipt: &Receipt<J>) -
     let written = written?;
     if written.has(receipt) {
         Some(Kept::Written(written.again()))
+    } else {
+        None
+    }
+}
+
+// What shows that the sheet of a receipt is covered by a snapshot, by what is, if it is.
+fn covered_with<J: Naming>(covered: Option<&Covered<J>>, receipt: &Receipt<J>) -> Option<Kept<J>>
+    ensures { (sync : OnePolicy) → IfSome result (IsKeptAs sync receipt.now) }
+{
+    let covered = covered?;
+    if covered.has(receipt) {
+        Some(Kept::Covered(covered.again()))
     } else {
         None
     }

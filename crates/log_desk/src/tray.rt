@@ -1,6 +1,9 @@
 //! The tray: where sheets wait for the pen.
 
-ghost use Rattle.std.specs.Prelude.{◌≡◌, ◌++◌, ◌∷◌, [], IfSome};
+ghost use Rattle.std.specs.Prelude.{◌≡◌, ◌++◌, ◌∷◌, [], IfNone, IfSome};
+ghost use Rattle.kept_file.specs.Files.{end_of};
+ghost use Rattle.log_writer.specs.declared.sheet.Sheet.{Sheet as OneSheet};
+ghost use Rattle.record_codec.specs.Lists.{AreSpelledBy};
 
 use kept_folder::end_bytes;
 use log_writer::{Batch, LogBuffer, Receipt, Sheet};
@@ -18,7 +21,9 @@ pub(crate) struct Tray<J: Naming> {
 
 impl<J: Naming> Tray<J> {
     /// A tray of a log that begins now.
-    pub(crate) fn new(alloc: Global, buffer: LogBuffer<J>) -> Tray<J> {
+    pub(crate) fn new(alloc: Global, buffer: LogBuffer<J>) -> Tray<J>
+        ensures { result.buffer ≡ buffer }
+    {
         Tray {
             alloc,
             buffer,
@@ -26,9 +31,11 @@ impl<J: Naming> Tray<J> {
         }
     }
 
-    /// Takes a sheet of so many records. None where memory was refused.
+    /// Takes a sheet of so many records. None where memory was refused: nothing was taken then.
     pub(crate) fn put_down(&mut self, sheet: &Sheet, records: u64) -> Option<Receipt<J>>
-        ensures { IfSome result (λ receipt. receipt ≡ self.old.buffer.upto ++ sheet.now ∷ []) }
+        ensures receipt { IfSome result (λ receipt. receipt ≡ self.old.buffer.upto ++ sheet.now ∷ []) }
+        ensures waits { IfSome result (λ receipt. self.new.buffer ≡ record { before = self.old.buffer.before; upto = receipt }) }
+        ensures refused { IfNone result (self.new.buffer ≡ self.old.buffer) }
     {
         match self.buffer.put_down(sheet) {
             Ok(receipt) => {
@@ -40,13 +47,21 @@ impl<J: Naming> Tray<J> {
     }
 
     /// Hands out what waits.
-    pub(crate) fn take(&mut self) -> Batch<J> {
+    pub(crate) fn take(&mut self) -> Batch<J>
+        ensures taken { result ≡ self.old.buffer }
+        ensures left { self.new.buffer ≡ record { before = self.old.buffer.upto; upto = self.old.buffer.upto } }
+    {
         self.buffer.take()
     }
 
     /// Hands out what waits, and behind it the record that ends the log. What comes from now on is the next log's. None where memory was
-    /// refused.
-    pub(crate) fn end(&mut self) -> Option<Batch<J>> {
+    /// refused: all waits on then.
+    pub(crate) fn end(&mut self) -> Option<Batch<J>>
+        ensures taken { IfSome result (λ batch. batch.before ≡ self.old.buffer.before) }
+        ensures ended { IfSome result (λ batch. (end : OneSheet) × (batch.upto ≡ self.old.buffer.upto ++ end ∷ []) × AreSpelledBy (end_of 0 self.old.records ∷ []) end.bytes.items) }
+        ensures left { IfSome result (λ batch. self.new.buffer ≡ record { before = batch.upto; upto = batch.upto }) }
+        ensures refused { IfNone result (self.new.buffer ≡ self.old.buffer) }
+    {
         let bytes = end_bytes(self.alloc, self.records).ok()?;
         self.buffer.put_down(&Sheet { bytes }).ok()?;
         self.records = 0;
@@ -54,7 +69,10 @@ impl<J: Naming> Tray<J> {
     }
 
     /// Hands out what waits, which no log gets. What comes from now on is the next log's.
-    pub(crate) fn give_up(&mut self) -> Batch<J> {
+    pub(crate) fn give_up(&mut self) -> Batch<J>
+        ensures taken { result ≡ self.old.buffer }
+        ensures left { self.new.buffer ≡ record { before = self.old.buffer.upto; upto = self.old.buffer.upto } }
+    {
         self.records = 0;
         self.buffer.take()
     }
