@@ -1,5 +1,6 @@
 //! A crew: workers on threads, a thread that hands them connections and follows what they do, and one that makes snapshots beside them.
 
+mod abreast;
 pub mod aside;
 mod pace;
 pub mod reporter;

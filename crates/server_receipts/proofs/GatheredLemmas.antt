@@ -26,7 +26,7 @@ same_place (u ∷ us) zero v w lt = refl
 same_place (u ∷ us) (suc k) v w lt = same_place us k v w (let l = lt in omega arith)
 
 -- two vnodes with one identifier are one
-one_vnode : (vs : List Log) (v w : Log) → Differ vs → Contains vs v → Contains vs w → v.vnode ≡ w.vnode → v ≡ w
+pub one_vnode : (vs : List Log) (v w : Log) → Differ vs → Contains vs v → Contains vs w → v.vnode ≡ w.vnode → v ≡ w
 one_vnode vs v w apart a b e =
     let p = number_there vs a.0 v a.1 a.2 in
     let q = number_there vs b.0 w b.1 b.2 in

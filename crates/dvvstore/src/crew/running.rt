@@ -1,13 +1,14 @@
 //! A crew at work, from its beginning to what is left of it.
 
 ghost use Rattle.std.specs.Prelude.{◌≡◌, ◌+◌, ◌*◌, ◌++◌, ◌≤◌, [], IfOk, map, vec_len};
-ghost use Rattle.audit_cluster.specs.Following.{IsFollowedTo, IsSaidOf};
-ghost use Rattle.dvvstore.specs.Asides.{AllRead, AreGathered, WithAsides};
+ghost use Rattle.audit_cluster.specs.Following.{AreNumbered, IsFollowedTo, IsSaidOf};
+ghost use Rattle.dvvstore.specs.Asides.{AllRead, AreBrought, AreGathered, WithAsides};
 ghost use Rattle.dvvstore.specs.Visits.{AfterAnswers, AfterAnswersOf, HaveVisited, begun};
 
+use crate::crew::abreast::join_three;
 use crate::crew::aside::Passes;
 use crate::crew::signs::Signs;
-use crate::crew::working::{Lookout, Seat, Shared, work_attended};
+use crate::crew::working::{Floor, Lookout, Seat, Shared, attend, work_all};
 use crate::host::Host;
 use crate::saver::Saver;
 use audit_cluster::{Closed, Spot, Watch, close_watched};
@@ -20,7 +21,6 @@ use server_accept::Lobby;
 use server_receipts::laws::{answers_are_by_receipts, answers_are_of_the_run};
 use std::alloc::{AllocError, Global};
 use std::sync::Wait;
-use std::thread;
 use std::thread::Threads;
 
 /// Who serves a store: its workers, who follows them, and who makes snapshots beside them.
@@ -80,16 +80,19 @@ fn run<
     let (alloc, rt) = (host.alloc, host.rt);
     let shared = Shared::new(lookout, ledger);
     let (lent, both) = (cluster, &shared);
-    let (spares, back) = thread::join(
+    let (spares, _, back) = join_three(
         rt,
         || -> Vec<Pass<B>>
             requires { vec_len spares ≤ 16 }
             ensures { AllRead lent.entry.now.first spares.items result.items × (vec_len result ≡ vec_len spares) }
         { save_beside(rt, lent, &both.signs(lobby), saver, spares, both.ledger) },
+        ||
+            requires { lent.now.first ≡ B.first }
+        { attend(rt, &Floor::new(alloc, lent, lobby, both)) },
         || -> Result<Vec<Passes<B>>, AllocError>
             requires { lent.now.first ≡ B.first }
             ensures { IfOk result (λ passes. (vec_len passes ≡ vec_len seats) × HaveVisited H.finds H.names H.takes (map (λ s. begun lent.entry.now s.pass s.hooking.hooks s.hooking.table.listed s.placement) seats.items) (map (λ p. p.pass) passes.items)) }
-        { work_attended(&Host { alloc, rt }, lent, seats, lobby, both) },
+        { work_all(&Host { alloc, rt }, lent, seats, lobby, both) },
     );
     let Shared {
         watch,
@@ -144,8 +147,8 @@ pub struct Served {
 /// workers were told, what these passes had been told before and then of reads, what workers only read, so that the ledger has it, and what
 /// the watch was told, which has vnodes hand out and start again and does nothing else. Each answer of a worker tells of these journals, by
 /// the receipts of its own calls: a read's is current among what they had brought before, and a write's dot is that of its entry, which as
-/// many vnodes as were asked for know. Where the journals are one run from their first entries on, these calls are steps of it, one behind
-/// the other.
+/// many vnodes as were asked for know. Where the journals are one run from their first entries on, or from fronts on that these
+/// passes had brought, these calls are steps of it, one behind the other.
 ///
 /// The error: memory was refused before the vnodes were gathered, and they are lost; some workers may have answered no connection then.
 pub fn serve<
@@ -165,9 +168,12 @@ pub fn serve<
     requires first { cluster.first ≡ B.first }
     requires all { cluster.passes ≤ 2 * vec_len crew.seats + vec_len crew.spares + 1 }
     requires few { vec_len crew.spares ≤ 16 }
-    // Each answer of a worker tells of the journals that are left, by the receipts of its own calls.
-    ensures kept { IfOk result (λ served. AfterAnswers H.finds H.names H.takes (map (λ s. begun cluster s.pass s.hooking.hooks s.hooking.table.listed s.placement) crew.seats.items) served.closed.vnodes.items (λ told. AreGathered cluster.first told crew.spares.items served.closed.vnodes.items) × (vec_len served.closed.vnodes ≡ cluster.vnodes)) }
+    // Each answer of a worker tells of the journals that are left, by the receipts of its own calls; and of the run that they are from
+    // fronts on whose entries these passes had been told of.
+    ensures kept { IfOk result (λ served. AfterAnswers H.finds H.names H.takes (AreBrought crew.spares.items served.closed.vnodes.items) (map (λ s. begun cluster s.pass s.hooking.hooks s.hooking.table.listed s.placement) crew.seats.items) served.closed.vnodes.items (λ told. AreGathered cluster.first told crew.spares.items served.closed.vnodes.items) × (vec_len served.closed.vnodes ≡ cluster.vnodes)) }
     ensures said { IfOk result (λ served. IsSaidOf fronts.now served.closed.vnodes.items served.closed.said) }
+    // A yes is of journals that stand at the places of their numbers, as the fronts do.
+    ensures numbered { IfOk result (λ served. IfOk served.closed.said (λ all. AreNumbered cluster.first served.closed.vnodes.items)) }
     // Where nothing was there before, a yes is that of the journals from their first entries on.
     ensures followed { IfOk result (λ served. fronts.now ≡ [] → AfterAnswersOf H.finds H.names H.takes (map (λ s. begun cluster s.pass s.hooking.hooks s.hooking.table.listed s.placement) crew.seats.items) (λ told all. WithAsides cluster.first crew.spares.items (λ these. (these ≡ all) × IsFollowedTo all cluster.vnodes served.closed.said) told)) }
 {

@@ -155,7 +155,7 @@ impl<'a, B: Room + Spot, L> Shared<'a, B, L> {
 
 /// Where workers work: the vnodes that they call, and what they share.
 #[derive(Drop)]
-struct Floor<'a, B: Room + Spot, L> {
+pub(crate) struct Floor<'a, B: Room + Spot, L> {
     alloc: Global,
     cluster: &'a Cluster<B>,
     lobby: &'a Lobby,
@@ -208,7 +208,7 @@ fn follow<B: Room + Spot, R: Wait, L>(
 }
 
 /// Hands out the connections that come, and follows what workers do, turn by turn, until all workers have ended.
-fn attend<B: Room + Spot, R: Wait, L: Ledger>(rt: &R, floor: &Floor<'_, B, L>) {
+pub(crate) fn attend<B: Room + Spot, R: Wait, L: Ledger>(rt: &R, floor: &Floor<'_, B, L>) {
     let mut timer = Timer::new();
     floor.shared.is_followed.store(true, SeqCst);
     let mut pace = Pace::new();
@@ -476,7 +476,7 @@ fn work<B: Room + Spot, H: Hooks + HookChanges + Drop, R: Wait, L: Ledger>(
 
 /// Has each seat's worker answer its connections, each on a thread of its own, or on the caller's where no thread can be made. That all
 /// have ended is noted.
-fn work_all<
+pub(crate) fn work_all<
     B: Room + Spot + Send + Sync,
     H: Hooks + HookChanges + Send + Drop,
     R: Threads + Wait + Sync,
@@ -504,37 +504,5 @@ fn work_all<
     shared.over.store(true, SeqCst);
     shared.bell.unpark();
     lobby.wake();
-    back
-}
-
-/// The same, while a thread of its own accepts connections and follows what the workers do; where none can be made for it, workers do so
-/// after each of their turns.
-pub(crate) fn work_attended<
-    B: Room + Spot + Send + Sync,
-    H: Hooks + HookChanges + Send + Drop,
-    R: Threads + Wait + Sync,
-    L: Ledger + Sync,
->(
-    host: &Host<'_, R>,
-    cluster: &Cluster<B>,
-    seats: Vec<Seat<B, H>>,
-    lobby: &Lobby,
-    shared: &Shared<'_, B, L>,
-) -> Result<Vec<Passes<B>>, AllocError>
-    requires first { cluster.now.first ≡ B.first }
-    ensures count { IfOk result (λ passes. vec_len passes ≡ vec_len seats) }
-    ensures visited { IfOk result (λ passes. HaveVisited H.finds H.names H.takes (map (λ s. begun cluster.now s.pass s.hooking.hooks s.hooking.table.listed s.placement) seats.items) (map (λ p. p.pass) passes.items)) }
-{
-    let (alloc, rt) = (host.alloc, host.rt);
-    let (_, back) = thread::join(
-        rt,
-        ||
-            requires { cluster.now.first ≡ B.first }
-        { attend(rt, &Floor::new(alloc, cluster, lobby, shared)) },
-        || -> Result<Vec<Passes<B>>, AllocError>
-            requires { cluster.now.first ≡ B.first }
-            ensures { IfOk result (λ passes. (vec_len passes ≡ vec_len seats) × HaveVisited H.finds H.names H.takes (map (λ s. begun cluster.entry.now s.pass s.hooking.hooks s.hooking.table.listed s.placement) seats.items) (map (λ p. p.pass) passes.items)) }
-        { work_all(&Host { alloc, rt }, cluster, seats, lobby, shared) },
-    );
     back
 }
