@@ -1,8 +1,8 @@
 -- What all passes of a crew were told.
-use Rattle.std.proofs.Common.{◌≡◌, ◌++◌, ◌∷◌, ◌+◌, ◌<◌, [], ℕ, zero, suc, List, ap, arith, length, refl, subst, sym, ◌∙◌, append_assoc, flat_map, map}
+use Rattle.std.proofs.Common.{◌≡◌, ◌++◌, ◌∷◌, ◌+◌, ◌<◌, [], ℕ, zero, suc, List, ap, arith, length, refl, subst, sym, ◌∙◌, append_assoc, flat_map}
 use Rattle.std.specs.List.{All}
 use Rattle.std.proofs.lemmas.Grind.{flat_map-append}
-use Rattle.std.proofs.lemmas.List.Elements.{All-append, All-nil}
+use Rattle.std.proofs.lemmas.List.Elements.{All-append, All-head, All-nil, All-tail}
 use Rattle.audit_cluster.specs.Following.{IsOfWatch}
 use Rattle.cluster_stamps.specs.declared.view.Told.{Told}
 use Rattle.cluster_stamps.specs.declared.view.View.{View}
@@ -34,9 +34,11 @@ spared first (old ∷ others) (new ∷ rest) ((more, is, reads), all) =
     (more, all_told rest, reads, ap (λ (ts : List Told). ts ++ all_told rest) is, spared (first + 1) others rest all)
 
 -- what passes were told that only read
-pub all_only_read : {A : Type 0} (pass : A → View) → ((a : A) → All IsRead (pass a).told) → (asides : List A) → All IsRead (all_told (map pass asides))
-all_only_read pass reads [] = All-nil IsRead
-all_only_read pass reads (aside ∷ asides) = All-append IsRead (pass aside).told (all_told (map pass asides)) (reads aside) (all_only_read pass reads asides)
+pub all_only_read : (asides : List View) → All (λ (p : View). All IsRead p.told) asides → All IsRead (all_told asides)
+all_only_read [] reads = All-nil IsRead
+all_only_read (aside ∷ asides) reads =
+    All-append IsRead aside.told (all_told asides) (All-head (λ (p : View). All IsRead p.told) aside asides reads)
+    (all_only_read asides (All-tail (λ (p : View). All IsRead p.told) aside asides reads))
 
 -- what is said of all that passes and a watch were told
 pub with_asides : (first : ℕ) (old new : List View) (Says : List Told → Type 0) (passes asides all : List View) (watched : List Told) → all ≡ passes ++ (new ++ asides) → AllRead first old new

@@ -8,23 +8,40 @@ use cluster_peers::ClusterPeers;
 use key_state::Key;
 use peers::{Answer, PeerFault, Peers};
 use std::alloc::Global;
+use std::marker::Model;
 use std::sync::Wait;
 
 /// A pass by which a worker reads what it wrote, so that a log has it, and does nothing else: all that it was told are reads.
 #[derive(Drop)]
 pub struct Aside<B: Room> {
-    /// The pass.
-    pub(crate) pass: Pass<B>,
-    ghost read: { All IsRead pass.told },
+    pass: Pass<B>,
+}
+
+impl<B: Room> Model for Aside<B> {
+    ghost use Rattle.cluster_stamps.specs.declared.view.View.{View};
+
+    ghost Value = { View };
+
+    ghost view = { λ a. a.pass };
+
+    ghost invariant = { λ a. All IsRead a.pass.told };
 }
 
 impl<B: Room> Aside<B> {
     /// A pass that was told nothing yet.
     pub fn new(pass: Pass<B>) -> Aside<B>
         requires fresh { pass.told ≡ [] }
-        ensures pass { result.pass ≡ pass }
+        ensures pass { result ≡ pass }
     {
         Aside { pass }
+    }
+
+    /// The pass.
+    pub(crate) fn into_pass(self) -> Pass<B>
+        ensures pass { result ≡ self }
+        ensures read { All IsRead result.told }
+    {
+        self.pass
     }
 }
 
@@ -53,7 +70,7 @@ impl<'a, B: Room, R: Wait> Reader<'a, B, R> {
         aside: Aside<B>,
     ) -> Reader<'a, B, R> {
         Reader {
-            peers: ClusterPeers::new(alloc, rt, cluster, aside.pass),
+            peers: ClusterPeers::new(alloc, rt, cluster, aside.into_pass()),
         }
     }
 

@@ -1,8 +1,9 @@
 //! A crew at work, from its beginning to what is left of it.
 
-ghost use Rattle.std.specs.Prelude.{◌≡◌, ◌+◌, ◌*◌, ◌++◌, ◌≤◌, [], IfOk, map, vec_len};
+ghost use Rattle.std.specs.Prelude.{◌≡◌, ◌+◌, ◌*◌, ◌++◌, ◌≤◌, [], All, IfOk, map, vec_len};
 ghost use Rattle.audit_cluster.specs.Following.{AreNumbered, IsFollowedTo, IsSaidOf};
 ghost use Rattle.dvvstore.specs.Asides.{AllRead, AreBrought, AreGathered, WithAsides};
+ghost use Rattle.dvvstore.specs.Reads.{IsRead};
 ghost use Rattle.dvvstore.specs.Visits.{AfterAnswers, AfterAnswersOf, HaveVisited, begun};
 
 use crate::crew::abreast::join_three;
@@ -196,7 +197,8 @@ fn all_passes<B: Room>(
     passes: Vec<Passes<B>>,
     mut spares: Vec<Pass<B>>,
 ) -> Result<Vec<Pass<B>>, AllocError>
-    ensures all { IfOk result (λ all. all.items ≡ map (λ p. p.pass) passes.items ++ (spares.items ++ map (λ p. p.aside.pass) passes.items)) }
+    ensures all { IfOk result (λ all. all.items ≡ map (λ p. p.pass) passes.items ++ (spares.items ++ map (λ p. p.aside) passes.items)) }
+    ensures read { IfOk result (λ all. All (λ p. All IsRead p.told) (map (λ p. p.aside) passes.items)) }
     ensures count { IfOk result (λ all. vec_len all ≡ 2 * vec_len passes + vec_len spares) }
 {
     let mut all = Vec::new(alloc);
@@ -204,7 +206,7 @@ fn all_passes<B: Room>(
     for worker in passes {
         let Passes { pass, aside } = worker;
         all.push(pass)?;
-        asides.push(aside.pass)?;
+        asides.push(aside.into_pass())?;
     }
     all.append(&mut spares)?;
     all.append(&mut asides)?;
