@@ -18,6 +18,8 @@ pub struct Aside<B: Room> {
 }
 
 impl<B: Room> Model for Aside<B> {
+    ghost use Rattle.std.specs.Prelude.{All};
+    ghost use Rattle.dvvstore.specs.Reads.{IsRead};
     ghost use Rattle.cluster_stamps.specs.declared.view.View.{View};
 
     ghost Value = { View };
