@@ -2,16 +2,15 @@
 
 In each round three clients, each with keys of its own, put, put with a context, put without one so that siblings stand, delete and
 get, and one of them binds a hook that rejects to a bucket and takes it away, and snapshots are asked for now and then, until the
-server is told to stop (half of the rounds) or is killed, maybe in the midst of a snapshot. After a stop everything that was
-acknowledged has to be there at the next start, siblings and contexts alike, and nothing else; a request that wasn't answered may
-have been done or not. After a kill everything has to be as it was at some moment since the last snapshot was asked for that was
-told whole; where none was asked for, as after the last stop. A second process on the folder has to be told `in use`. No key is ever
-given one tag twice, and a context from before a kill is taken or answered by 412, and never lets a value go that its client hasn't
-seen.
+server is told to stop (a quarter of the rounds) or is killed, maybe in the midst of a snapshot. A fourth client sends puts of keys of
+its own one behind another, some at a time, and reads the answers later. Whatever the end was, everything that was acknowledged has to
+be there at the next start, siblings and contexts alike, and nothing else; a request that wasn't answered may have been done or not.
+That is so however often the log is forced, as the rounds take in turn. A second process on the folder has to be told `in use`. No key
+is ever given one tag twice, and a context from before a kill is taken or answered by 412, and never lets a value go that its client
+hasn't seen.
 """
 from __future__ import annotations
 
-import copy
 import random
 import threading
 import time
@@ -19,27 +18,33 @@ from dataclasses import dataclass, field
 from pathlib import Path
 
 import kept
-from server import Answer, Client, NoStart, Server
+from server import Answer, Client, NoStart, Server, request
 from trial import Findings, Result
 
 NAME = "kills"
-PROMISES = "A stop keeps each acknowledged write, and a kill each one before the last whole snapshot."
+PROMISES = "A stop keeps each acknowledged write, and so does a kill."
 QUICK = True
 
 
 @dataclass(frozen=True)
 class Size:
-    """How often the store is started. Half of the rounds end by a stop, the others by a kill."""
+    """How often the store is started. A quarter of the rounds end by a stop, the others by a kill."""
 
     rounds: int
 
 
-FULL, SHORT = Size(rounds=100), Size(rounds=8)
+FULL, SHORT = Size(rounds=300), Size(rounds=12)
+
+SYNCS = (b"always", b"everysec", b"never")
 
 CLIENTS = 3
 KEYS_OF_A_CLIENT = 6
 MOST_SIBLINGS = 8
-COPIES = 3
+COPIES = 1
+PIPED = 40
+PIPED_OF_A_START = 400
+PIPED_BEFORE = 200
+PIPE_REST_SECONDS = 0.01
 BOUND = "the hook is bound"
 
 # Of a key the sets of values of which one stands there; of the hook whether it is bound.
@@ -56,23 +61,11 @@ class Writer(threading.Thread):
         self.known, self.contexts = known, contexts
         self.tags: list[tuple[str, str]] = []
         self.faults: list[str] = []
-        self.history = {key: [(0.0, may)] for key, may in known.items()}
         self.is_over = False
 
     def note(self, key: str, may: May) -> None:
         """From now on one of these stands under a key."""
         self.known[key] = may
-        self.history[key].append((time.monotonic(), may))
-
-    def since(self, moment: float) -> dict[str, May]:
-        """What stood under each key at some time since a moment."""
-        stood: dict[str, May] = {}
-        for key, history in self.history.items():
-            first = max(place for place, (noted, _) in enumerate(history) if noted <= moment)
-            stood[key] = []
-            for _, may in history[first:]:
-                stood[key] += [one for one in may if one not in stood[key]]
-        return stood
 
     def ask(self, method: str, path: str, body: bytes | None = None, context: str | None = None) -> Answer:
         return self.client.ask(method, path, body, context)
@@ -164,27 +157,71 @@ class Writer(threading.Thread):
 
 
 @dataclass
-class Snapshots:
-    """When the last was asked for that was told whole, whether there was one of which nothing was told, and what was told otherwise."""
+class Piped:
+    """Keys that were put one behind another, each once with its own name as its value: those acknowledged since the last start, and before."""
 
-    last_whole: float | None = None
-    is_one_torn: bool = False
-    faults: list[str] = field(default_factory=list)
+    count: int = 0
+    new: list[str] = field(default_factory=list)
+    old: list[str] = field(default_factory=list)
 
-    def ask_for_some(self, server: Server, chance: random.Random) -> None:
-        for _ in range(chance.randrange(4)):
-            time.sleep(chance.uniform(0.02, 0.15))
-            begun = time.monotonic()
-            line = server.snapshot()
-            if kept.is_whole_snapshot(line):
-                self.last_whole = begun
-            else:
-                self.faults.append(f"a snapshot: {line}")
-        time.sleep(chance.uniform(0.05, 0.3))
-        if chance.random() < 0.5:
-            server.say("snapshot")
-            self.is_one_torn = True
-            time.sleep(chance.uniform(0, 0.15))
+
+class Piper(threading.Thread):
+    """Sends puts of new keys one behind another, some at a time, and knows which were acknowledged."""
+
+    def __init__(self, server: Server, known: Piped, chance: random.Random):
+        super().__init__()
+        self.server, self.known, self.chance = server, known, chance
+        self.faults: list[str] = []
+        self.is_over = False
+
+    def check(self, client: Client) -> None:
+        """Whether all that were acknowledged since the last start are there, and some of those before."""
+        known = self.known
+        keys = known.new + self.chance.sample(known.old, min(len(known.old), PIPED_BEFORE))
+        known.old += known.new
+        known.new = []
+        for first in range(0, len(keys), PIPED):
+            some = keys[first : first + PIPED]
+            answers = client.ask_together([request("GET", f"/buckets/p/keys/{key}") for key in some])
+            self.faults += [f"at the start {key}: {one.status}" for key, one in zip(some, answers) if one.body != key.encode()]
+
+    def send_some(self, client: Client) -> None:
+        """Some puts at once, whose answers are read behind the last."""
+        known = self.known
+        keys = [f"p{known.count + place}" for place in range(self.chance.randint(1, PIPED))]
+        known.count += len(keys)
+        client.send(b"".join(request("PUT", f"/buckets/p/keys/{key}", key.encode(), Content_Type="text/plain") for key in keys))
+        for key in keys:
+            if client.hear().status == 204:
+                known.new.append(key)
+
+    def run(self) -> None:
+        try:
+            with self.server.client() as client:
+                self.check(client)
+                while not self.is_over:
+                    if len(self.known.new) < PIPED_OF_A_START:
+                        self.send_some(client)
+                    time.sleep(PIPE_REST_SECONDS)
+        except OSError:  # the server was stopped or killed
+            pass
+        except ValueError as error:
+            self.faults.append(f"an answer that is none: {error}")
+
+
+def ask_for_snapshots(server: Server, chance: random.Random) -> list[str]:
+    """Asks for some snapshots, of which the last may be under way when this ends. Gives what was told otherwise."""
+    faults = []
+    for _ in range(chance.randrange(3)):
+        time.sleep(chance.uniform(0.02, 0.15))
+        line = server.snapshot()
+        if not kept.is_whole_snapshot(line):
+            faults.append(f"a snapshot: {line}")
+    time.sleep(chance.uniform(0.02, 0.3))
+    if chance.random() < 0.5:
+        server.say("snapshot")
+        time.sleep(chance.uniform(0, 0.15))
+    return faults
 
 
 @dataclass
@@ -196,6 +233,7 @@ class Life:
     chance: random.Random
     known: list[dict[str, May]]
     contexts: list[dict]
+    piped: Piped
     tags: set[tuple[str, str]] = field(default_factory=set)
     stops: int = 0
     kills: int = 0
@@ -224,40 +262,40 @@ class Life:
         with server:
             faults = [] if server.loaded is not None else [f"the start: {server.first_lines}"]
             faults += self.second_process() if is_first else []
-            now, snapshots = copy.deepcopy(self.known), Snapshots()
             chances = [random.Random(self.chance.random()) for _ in range(CLIENTS)]
-            writers = [Writer(server, number, now[number], self.contexts[number], chances[number]) for number in range(CLIENTS)]
-            for writer in writers:
-                writer.start()
-            snapshots.ask_for_some(server, self.chance)
+            writers: list = [Writer(server, number, self.known[number], self.contexts[number], chances[number]) for number in range(CLIENTS)]
+            piper = Piper(server, self.piped, random.Random(self.chance.random()))
+            for thread in [*writers, piper]:
+                thread.start()
+            faults += ask_for_snapshots(server, self.chance)
             if is_stopped:
                 faults += self.end_of(server)
             else:
                 server.kill()
+            for thread in [*writers, piper]:
+                thread.is_over = True
+                thread.join()
+                faults += thread.faults
             for writer in writers:
-                writer.is_over = True
-                writer.join()
-                faults += writer.faults + self.note_tags(writer.tags)
+                faults += self.note_tags(writer.tags)
         self.stops += is_stopped
         self.kills += not is_stopped
-        if is_stopped:
-            self.known = now
-        elif snapshots.last_whole is not None or snapshots.is_one_torn:
-            self.known = [writer.since(snapshots.last_whole or 0.0) for writer in writers]
-        return faults + snapshots.faults
+        return faults
 
 
 def run(program: Path, seed: int, size: Size) -> Result:
     found, chance = Findings(), random.Random(seed)
-    are_stopped = [number % 2 == 0 for number in range(size.rounds)]
+    are_stopped = [number % 4 == 0 for number in range(size.rounds)]
     chance.shuffle(are_stopped)
     known: list[dict[str, May]] = [{f"c{number}-{place}": [frozenset()] for place in range(KEYS_OF_A_CLIENT)} for number in range(CLIENTS)]
     known[0][BOUND] = [False]
-    with kept.folders(settings=kept.NO_SNAPSHOTS_BY_ITSELF) as folder:
-        life = Life(program, folder, chance, known, [{} for _ in range(CLIENTS)])
+    with kept.folders() as folder:
+        life = Life(program, folder, chance, known, [{} for _ in range(CLIENTS)], Piped())
         for number, is_stopped in enumerate(are_stopped):
+            sync = SYNCS[number % len(SYNCS)]
+            (folder / kept.SETTINGS).write_bytes(kept.NO_SNAPSHOTS_BY_ITSELF + b"sync %s\n" % sync)
             for fault in life.round(number == 0, is_stopped):
-                found.fail(f"round {number}: {fault}")
+                found.fail(f"round {number}, sync {sync.decode()}: {fault}")
             if not found.is_fine:
                 break
     return found.result(f"{life.stops} stops, {life.kills} kills, {len(life.tags)} changes")

@@ -47,6 +47,8 @@ NAMES = (
     "proxies",
     "neighbours",
     "kills",
+    "log_tails",
+    "log_order",
     "damages",
     "folders",
     "copies",

@@ -2,6 +2,7 @@
 use Rattle.std.proofs.Common.{◌≡◌, ◌++◌, ◌∷◌, ◌+◌, ◌<◌, [], ℕ, zero, suc, List, ap, arith, length, refl, subst, sym, ◌∙◌, append_assoc, flat_map}
 use Rattle.std.specs.List.{All}
 use Rattle.std.proofs.lemmas.Grind.{flat_map-append}
+use Rattle.std.proofs.lemmas.List.Elements.{All-append, All-head, All-nil, All-tail}
 use Rattle.audit_cluster.specs.Following.{IsOfWatch}
 use Rattle.cluster_stamps.specs.declared.view.Told.{Told}
 use Rattle.cluster_stamps.specs.declared.view.View.{View}
@@ -13,6 +14,7 @@ use Rattle.kept_restore.specs.Beginnings.{BeginsWith, HaveLoaded}
 use Rattle.kept_restore.specs.Loads.{HasLoaded}
 use Rattle.record_codec.specs.declared.record.Record.{Record}
 use Rattle.dvvstore.specs.Asides.{AllRead, AreGathered, AreSpared, WithAsides}
+use Rattle.dvvstore.specs.Reads.{IsRead}
 
 -- what passes were told
 abbrev pub all_told : List View → List Told
@@ -31,11 +33,25 @@ spared first (old ∷ others) [] all = absurd all
 spared first (old ∷ others) (new ∷ rest) ((more, is, reads), all) =
     (more, all_told rest, reads, ap (λ (ts : List Told). ts ++ all_told rest) is, spared (first + 1) others rest all)
 
+-- what passes were told that only read
+pub all_only_read : (asides : List View) → All (λ (p : View). All IsRead p.told) asides → All IsRead (all_told asides)
+all_only_read [] reads = All-nil IsRead
+all_only_read (aside ∷ asides) reads =
+    All-append IsRead aside.told (all_told asides) (All-head (λ (p : View). All IsRead p.told) aside asides reads)
+    (all_only_read asides (All-tail (λ (p : View). All IsRead p.told) aside asides reads))
+
 -- what is said of all that passes and a watch were told
-pub with_asides : (first : ℕ) (old new : List View) (Says : List Told → Type 0) (passes all : List View) (watched : List Told) → all ≡ passes ++ new → AllRead first old new
-    → All IsOfWatch watched → Says (all_told all ++ watched) → WithAsides first old Says (all_told passes)
-with_asides first old new Says passes all watched is reads its says =
-    (all_told new, watched, spared first old new reads, its, subst Says (told_before passes all new watched is) says)
+pub with_asides : (first : ℕ) (old new : List View) (Says : List Told → Type 0) (passes asides all : List View) (watched : List Told) → all ≡ passes ++ (new ++ asides) → AllRead first old new
+    → All IsRead (all_told asides) → All IsOfWatch watched → Says (all_told all ++ watched) → WithAsides first old Says (all_told passes)
+with_asides first old new Says passes asides all watched is reads only its says = (
+  all_told new,
+  all_told asides,
+  watched,
+  spared first old new reads,
+  only,
+  its,
+  subst Says (told_before passes all (new ++ asides) watched is ∙ ap (λ (ts : List Told). all_told passes ++ ts) (told_before new (new ++ asides) asides watched refl)) says,
+)
 
 -- ---- what the spare passes had been told
 
@@ -73,6 +89,6 @@ each_begins stand logs files watched first index front all spared (old ∷ olds)
 -- so do all journals that are left
 pub all_begin : (stand : LoadsStand) (logs : List Log) (files : List KeptFile) (first vnodes : ℕ) (told : List Told) (olds spares : List View) → length spares ≡ vnodes → HaveLoaded first 0 files olds spares
     → AreGathered first told spares logs → (k : ℕ) → k < vnodes → BeginsWith logs (first + k) (records_at files k)
-all_begin stand logs files first vnodes told olds spares many loaded (spared, watched, are, its, gathered) k lt =
+all_begin stand logs files first vnodes told olds spares many loaded (spared, read, watched, are, only, its, gathered) k lt =
     begun_at logs files first (0 + k) k (omega arith)
-    (each_begins stand logs files watched first 0 told (told ++ (spared ++ watched)) spared olds spares loaded (spared_at spares spared first (first + 0) (omega arith) are) refl gathered k (omega (arith, lt, many)))
+    (each_begins stand logs files (read ++ watched) first 0 told (told ++ (spared ++ (read ++ watched))) spared olds spares loaded (spared_at spares spared first (first + 0) (omega arith) are) refl gathered k (omega (arith, lt, many)))

@@ -1,10 +1,10 @@
 -- What a pass is told of reads, call by call.
 use Rattle.std.proofs.Common.{◌≡◌, ◌∙◌, ◌+◌, ◌<◌, ◌≤◌, ℕ, Bool, true, false, List, [], ◌∷◌, ◌++◌, Result, Ok, Err, IfOk, ap, append_assoc, arith, length, refl, subst, sym}
-use Rattle.std.specs.Prelude.{MatchBool}
+use Rattle.std.specs.Prelude.{IsTrue, MatchBool}
 use Rattle.std.specs.List.{All, AllByRecursion}
 use Rattle.std.specs.Global.{Vec}
 use Rattle.std.proofs.lemmas.List.{append-nil}
-use Rattle.std.proofs.lemmas.List.Elements.{All-append, All-nil, All-push}
+use Rattle.std.proofs.lemmas.List.Elements.{All-append, All-nil, All-push, All-weaker}
 use Rattle.key_state.specs.declared.content.Key.{Key}
 use Rattle.kept_file.specs.Files.{IsFileOf}
 use Rattle.kept_file.specs.Snapshots.{IsReadAt, reads_at, records_read, snapshot_calls}
@@ -17,6 +17,7 @@ use Rattle.peers.specs.declared.peers.Answer.{Answer}
 use Rattle.record_codec.specs.declared.record.Record.{Record}
 use Rattle.cluster_stamps.specs.declared.request.Request.{Request}
 use Rattle.cluster_stamps.specs.declared.request.Request.TheVariants as request
+use Rattle.cluster_stamps.specs.declared.view.News.{News}
 use Rattle.cluster_stamps.specs.declared.view.Size.{Size}
 use Rattle.cluster_stamps.specs.declared.view.Told.{Told}
 use Rattle.cluster_stamps.specs.declared.view.View.{View}
@@ -26,6 +27,7 @@ use Rattle.cluster_vnode.specs.declared.fault.CallFault.{CallFault}
 use Rattle.cluster_vnode.specs.declared.fault.CallFault.TheVariants as fault
 use Rattle.cluster_peers.specs.Peering.{IsNoReply, PassStep, Passes as Leaves, Reach}
 use Rattle.dvvstore.specs.Asides.{AllRead, AreReadBy, IsKeptBy, IsReadOf, Reads}
+use Rattle.dvvstore.specs.Reads.{IsRead, is_read}
 
 pub nothing_more : (vnode : ℕ) (old new : View) → new.told ≡ old.told → Reads vnode old new
 nothing_more vnode old new is = ([], is ∙ sym (append-nil old.told), All-nil (IsReadOf vnode))
@@ -83,6 +85,16 @@ reads size i old (MergePartAt j key from at part back) new none h = absurd none
 reads size i old (KeysOf j (Ok keys)) new is h = nothing_more (size.first + i) old new h.0
 reads size i old (KeysOf j (Err Lost)) new is h = nothing_more (size.first + i) old new h.0
 reads size i old (KeysOf j (Err (Refused why))) new is h = nothing_more (size.first + i) old new h.1
+
+-- a call that asks a vnode for the state of a key only reads
+only_one : (vnode : ℕ) (t : Told) → IsReadOf vnode t → IsRead t
+only_one vnode t (at, (key, came, is)) = subst (λ (n : News). IsTrue (is_read n)) (sym is) refl
+
+-- a pass that only read goes on so
+pub only_reads : (size : Size) (i : ℕ) (old : View) (key : Key) (back : Result Answer PeerFault) (new : View) → Leaves size old (StateOf i key back) new → All IsRead old.told → All IsRead new.told
+only_reads size i old key back new left read =
+    let (more, is, each) = reads size i old (StateOf i key back) new refl left in
+    subst (All IsRead) (sym is) (All-append IsRead old.told more read (All-weaker (IsReadOf (size.first + i)) IsRead (only_one (size.first + i)) more each))
 
 -- ---- calls
 

@@ -2,6 +2,7 @@ mod Among
 mod Fronts
 mod Over
 mod Putting
+mod Scribing
 mod SeatSent
 mod Serving
 mod Sent

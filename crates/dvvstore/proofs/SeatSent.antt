@@ -20,6 +20,7 @@ use Rattle.bpf_helpers.specs.contracts.table.Table as Table
 use Rattle.quorum.specs.contracts.hooking.Hooking as Hooking
 use Rattle.cluster_vnode.proofs.pass.Pass.TheSendSync as pass
 use Rattle.cluster_vnode.specs.declared.pass.Room as room
+use Rattle.dvvstore.proofs.crew.aside.Aside.TheSendSync as aside
 use Rattle.dvvstore.specs.contracts.crew.working.Seat as Seat
 
 -- D, d, f: the closures of this program, and what they may answer
@@ -34,4 +35,4 @@ module _ (D : RattleType) (d : Ghosts D.Denot) (f : Mut ((x : D.Denot) × (d.1.0
   hooking_send H h = declared_send (Hooking.the_type H D d f) (search (h, sendable), (table_send, (search (sendable, crosses) depth 40 fits 20000, (heap.the_send, tt))))
 
   pub seat_send : (B H : RattleType) (g : room.Ghosts B.Denot) → IsSend B → IsSend H → IsSend (Seat.the_row B H D g d f)
-  seat_send B H g b h = declared_send (Seat.the_type B H D g d f) (search (pass.the_send, sendable, crosses) depth 30, (hooking_send H h, (search (sendable, crosses) depth 30, (search sendable depth 30, tt))))
+  seat_send B H g b h = declared_send (Seat.the_type B H D g d f) (search (pass.the_send, sendable, crosses) depth 30, (search (aside.the_send, pass.the_send, sendable, crosses) depth 30, (hooking_send H h, (search (sendable, crosses) depth 30, (search sendable depth 30, tt)))))

@@ -23,6 +23,8 @@ use Rattle.cluster_vnode.specs.contracts.pass.Pass as Pass
 use Rattle.kept_restore.proofs.Sent.{pass_send}
 use Rattle.dvvstore.specs.contracts.saver.Saver as Saver
 use Rattle.dvvstore.proofs.crew.reporter.Reporter.TheSendSync as reporter
+use Rattle.dvvstore.proofs.crew.scribe.Filing.TheSendSync as filing
+use Rattle.dvvstore.specs.contracts.crew.scribe.Filing as Filing
 use Rattle.dvvstore.proofs.saver.Saver.TheSendSync as saver
 use Rattle.dvvstore.specs.contracts.saver.Side as Side
 use Rattle.dvvstore.specs.contracts.saver.Shelf as Shelf
@@ -43,8 +45,12 @@ lock_sync B g h s = search (watch_send, sendable, crosses) depth 40
 requests_sync : IsSync (Mutex.the_row Requests.the_row)
 requests_sync = search (requests.the_send, sendable, crosses) depth 40
 
-pub shared_sync : (B : RattleType) (g : room.Ghosts B.Denot) (h : spot.Ghosts B.Denot) → IsSend B → IsSync (Shared.the_row B g h)
-shared_sync B g h s = search (lock_sync, requests_sync, reporter.the_field_sync, writes.the_field_sync, sendable, crosses) depth 60 fits 20000
+-- so may the right to write these
+filing_sync : IsSync (Mutex.the_row Filing.the_row)
+filing_sync = search (filing.the_send, sendable, crosses) depth 40
+
+pub shared_sync : (l : _) (B L : RattleType) (g : room.Ghosts B.Denot) (h : spot.Ghosts B.Denot) → IsSend B → IsSync L → IsSync (Shared.the_row l B L g h)
+shared_sync l B L g h s y = search (lock_sync, requests_sync, filing_sync, reporter.the_field_sync, writes.the_field_sync, y, sendable, crosses) depth 60 fits 20000
 
 -- a thread may be handed who follows
 pub lookout_send : (B : RattleType) (g : room.Ghosts B.Denot) (h : spot.Ghosts B.Denot) → IsSend B → IsSend (Lookout.the_row B g h)
@@ -75,7 +81,7 @@ pub shelf_sync : (F : RattleType) → IsSync F → IsSync (Shelf.the_row F)
 shelf_sync F s = search (shelf.the_sync, s, sendable, crosses) depth 40
 
 pub signs_sync : (l : _) → IsSync (Signs.the_row l)
-signs_sync l = search (lobby_sync, requests_sync, writes.the_sync, sendable, crosses) depth 60 fits 20000
+signs_sync l = search (lobby_sync, requests_sync, filing_sync, writes.the_sync, sendable, crosses) depth 60 fits 20000
 
 -- those who take records over may share what they and who follows tell each other
 pub load_sync : (l : _) (R : RattleType) → IsSync R → IsSync (Load.the_row l R)

@@ -62,6 +62,10 @@ module _ {V : Type 0} (gives : V → Call → Reply → V → Type 0) (copies : 
       let then = stays (copies start) stands.log sockets shown stands.each in
       (then.0, then.1, record { same = stands.same; log = stands.log; runs = stands.runs; each = then.2 })
 
+  -- nothing was done
+  pub works_none : (worker : Worker) (x : V) → Works gives copies worker worker x x
+  works_none worker x = (refl, λ log s shown each. (s, shown, record { made = []; runs = refl; each = subst (λ (l : Log). AllStand (copies x) l s (seats_of worker)) (sym (append-nil log)) each }))
+
   pub leads_as : (start : V) (old new : Worker) (x y : V) → new ≡ old → y ≡ x → Leads gives copies start old x → Leads gives copies start new y
   leads_as start old new x y same is leads = subst (λ (s : V). Leads gives copies start new s) (sym is) (subst (λ (w : Worker). Leads gives copies start w x) (sym same) leads)
 
@@ -155,14 +159,14 @@ module _ {H : Type 0} (finds : H → List ℕ → ImageKind → Result (Option P
       )
 
   -- each came back
-  pub have_visited : {S : Type 0} (of : S → StoreView Passing H) (seats : List S) (backs : List View) → length backs ≡ length seats
-      → ((i : ℕ) (seat : S) (back : View) → i < length seats → HasVisited finds names takes (of (slice_index_or seats i seat)) (slice_index_or backs i back))
-      → HaveVisited finds names takes (map of seats) backs
-  have_visited of [] [] even each = tt
-  have_visited of [] (back ∷ backs) even each = absurd (omega (arith, even))
-  have_visited of (seat ∷ seats) [] even each = absurd (omega (arith, even))
-  have_visited of (seat ∷ seats) (back ∷ backs) even each =
-      (each 0 seat back (omega arith), have_visited of seats backs (omega (arith, even)) (λ i s b below. each (suc i) s b (omega (arith, below))))
+  pub have_visited : {S B : Type 0} (of : S → StoreView Passing H) (pass : B → View) (seats : List S) (backs : List B) → length backs ≡ length seats
+      → ((i : ℕ) (seat : S) (back : B) → i < length seats → HasVisited finds names takes (of (slice_index_or seats i seat)) (pass (slice_index_or backs i back)))
+      → HaveVisited finds names takes (map of seats) (map pass backs)
+  have_visited of pass [] [] even each = tt
+  have_visited of pass [] (back ∷ backs) even each = absurd (omega (arith, even))
+  have_visited of pass (seat ∷ seats) [] even each = absurd (omega (arith, even))
+  have_visited of pass (seat ∷ seats) (back ∷ backs) even each =
+      (each 0 seat back (omega arith), have_visited of pass seats backs (omega (arith, even)) (λ i s b below. each (suc i) s b (omega (arith, below))))
 
   -- the same where the vnodes are reached by a pass, as that shows them
   pub visited_by : {P : Type 0} (happens : P → PeerCall → P → Type 0) (passing : P → Passing) (start end : StoreView P H) (begins : StoreView Passing H) (back : View)
@@ -187,7 +191,7 @@ gathered_after finds names takes GoesOn starts id spares logs (calls, visits, ga
 pub visits_gathered : {H : Type 0} (finds : H → List ℕ → ImageKind → Result (Option Program) NotSeen → H → Type 0) (names : H → List ℕ → ImageKind → Result (Option (List ℕ)) NameFault → H → Type 0)
     (takes : H → Change → Result Unit HookFault → H → Type 0) (GoesOn : List ℕ → Type 0) (starts : List (StoreView Passing H)) (id : ℕ) (spares : List View) (logs : List JournalLog)
     → AfterAnswers finds names takes GoesOn starts logs (λ told. AreGathered id told spares logs) → AfterAnswers finds names takes GoesOn starts logs (λ told. HasAll told logs)
-visits_gathered finds names takes GoesOn starts id spares logs (calls, visits, (spare, watched, spared, its, gathered), tell) = (calls, visits, (spare ++ watched, gathered), tell)
+visits_gathered finds names takes GoesOn starts id spares logs (calls, visits, (spare, read, watched, spared, only, its, gathered), tell) = (calls, visits, (spare ++ (read ++ watched), gathered), tell)
 
 -- what holds of an answer, by what two clauses say of it
 pub if_both : {T E : Type 0} (r : Result T E) (P Q R : T → Type 0) → ((v : T) → P v → Q v → R v) → IfOk r P → IfOk r Q → IfOk r R
@@ -250,20 +254,20 @@ module _ {H : Type 0} (finds : H → List ℕ → ImageKind → Result (Option P
     -- so they do of the journals that are left
     pub answers_after : (starts : List (StoreView Passing H)) (id : ℕ) (spares : List View) (logs : List JournalLog) (calls : List (List Told)) (visits : AreVisits finds names takes starts calls)
         → AreGathered id (told_with starts calls) spares logs → AfterAnswers finds names takes (AreBrought spares logs) starts logs (λ told. AreGathered id told spares logs)
-    answers_after starts id spares logs calls visits (spare, watched, spared, its, gathered) = (
+    answers_after starts id spares logs calls visits (spare, read, watched, spared, only, its, gathered) = (
       calls,
       visits,
-      (spare, watched, spared, its, gathered),
-      all_tell (told_with starts calls) (spare ++ watched) logs gathered (AreBrought spares logs) (brought_among id spares spare watched logs spared) starts calls visits (λ t c. c),
+      (spare, read, watched, spared, only, its, gathered),
+      all_tell (told_with starts calls) (spare ++ (read ++ watched)) logs gathered (AreBrought spares logs) (brought_among id spares spare (read ++ watched) logs spared) starts calls visits (λ t c. c),
     )
 
     -- and of whatever journals hold all that was told
     pub answers_of : (starts : List (StoreView Passing H)) (id : ℕ) (spares : List View) (Says : List Told → Type 0) (calls : List (List Told)) (visits : AreVisits finds names takes starts calls)
         → WithAsides id spares Says (told_with starts calls) → AfterAnswersOf finds names takes starts (λ told all. WithAsides id spares (λ these. (these ≡ all) × Says all) told)
-    answers_of starts id spares Says calls visits (spare, watched, spared, its, says) = (
+    answers_of starts id spares Says calls visits (spare, read, watched, spared, only, its, says) = (
       calls,
       visits,
-      told_with starts calls ++ (spare ++ watched),
-      (spare, watched, spared, its, (refl, says)),
-      λ logs gathered. all_tell (told_with starts calls) (spare ++ watched) logs gathered (λ fronts. fronts ≡ []) (none_made (spare ++ watched) logs) starts calls visits (λ t c. c),
+      told_with starts calls ++ (spare ++ (read ++ watched)),
+      (spare, read, watched, spared, only, its, (refl, says)),
+      λ logs gathered. all_tell (told_with starts calls) (spare ++ (read ++ watched)) logs gathered (λ fronts. fronts ≡ []) (none_made (spare ++ (read ++ watched)) logs) starts calls visits (λ t c. c),
     )

@@ -20,6 +20,7 @@ use Rattle.kept_folder.specs.Seals.{sealed}
 use Rattle.kept_folder.specs.Steps.{IsPut, Step}
 use Rattle.kept_hooks.specs.Lists.{Listed}
 use Rattle.kept_hooks.specs.Spelling.{all_spelled}
+use Rattle.dvvstore.specs.Reads.{IsRead}
 
 -- this vnode was asked for the state of a key, whatever it answered
 abbrev pub IsReadOf : ℕ → Told → Type 0
@@ -42,9 +43,11 @@ AreSpared first [] told = told ≡ []
 AreSpared first (spare ∷ spares) told =
     (more rest : List Told) × All (IsReadOf first) more × (told ≡ (spare.told ++ more) ++ rest) × AreSpared (first + 1) spares rest
 
--- what was told is this, what spare passes were told, and what a watch was told, which has vnodes hand out and start again and does nothing else
+-- what was told is this, what spare passes were told, what was only read, so that a log has it, and what a watch was told, which has vnodes hand out and start again and
+-- does nothing else
 abbrev pub WithAsides : ℕ → List View → (List Told → Type 0) → List Told → Type 0
-WithAsides first spares Says told = (spared watched : List Told) × AreSpared first spares spared × All IsOfWatch watched × Says (told ++ (spared ++ watched))
+WithAsides first spares Says told =
+    (spared read watched : List Told) × AreSpared first spares spared × All IsRead read × All IsOfWatch watched × Says (told ++ (spared ++ (read ++ watched)))
 
 -- all that is gathered in these journals, each of it once
 abbrev pub AreGathered : ℕ → List Told → List View → List Log → Type 0

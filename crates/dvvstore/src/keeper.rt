@@ -1,6 +1,6 @@
 //! A store that a folder keeps, from what it held to what is to be written.
 
-ghost use Rattle.std.specs.Prelude.{◌≡◌, ◌+◌, ◌<◌, ◌≤◌, ◌^◌, IfOk, OnOk, map, vec_len};
+ghost use Rattle.std.specs.Prelude.{◌≡◌, ◌+◌, ◌*◌, ◌<◌, ◌≤◌, ◌^◌, IfOk, OnOk, map, vec_len};
 ghost use Rattle.std.specs.Option.{option_map};
 ghost use Rattle.cluster_stamps.specs.declared.view.Size.{Size};
 ghost use Rattle.kept_fold.specs.Folds.{AreFolded};
@@ -22,6 +22,7 @@ use kept_folder::{Folder, HOOKS, Held, Settings};
 use kept_hooks::{BegunHooks, ReplayFault, Requests};
 use kept_restore::laws::loads_stand;
 use kept_restore::{Unloaded, fronts_of};
+use log_desk::Pages;
 use server_accept::{Bound, Lobby, Setup, open, tell_listening};
 use std::alloc::{AllocError, Global};
 use std::io;
@@ -113,18 +114,20 @@ pub enum Door<'a, N> {
 
 /// What a store begins with, who keeps it, and where it answers.
 #[derive(Drop)]
-pub struct Stay<'a, N, F> {
+pub struct Stay<'a, N, F, L> {
     /// The folder that keeps it; none of a store that is forgotten.
     pub folder: Option<F>,
     /// What that held: nothing where there is none. The records are let go once the vnodes have them.
     pub held: Held,
     /// Where the store answers.
     pub door: Door<'a, N>,
+    /// Where what is written is kept before it is answered, if it is.
+    pub ledger: &'a L,
     /// Where what can't wait is told.
     pub err: Stderr,
 }
 
-impl<N, F: Drop> Stay<'_, N, F> {
+impl<N, F: Drop, L> Stay<'_, N, F, L> {
     /// How many of the first entries of each of so many vnodes were there before: none are named where no folder keeps the store.
     pub fn fronts(&self, alloc: Global, vnodes: usize) -> Result<Vec<usize>, AllocError>
         ensures { IfOk result (λ fronts. fronts.items ≡ fronts_for self.now.folder vnodes self.now.held.files.items) }
@@ -147,6 +150,7 @@ impl<N, F: Drop> Stay<'_, N, F> {
             folder,
             held,
             door,
+            ledger,
             err,
         } = self;
         let Held {
@@ -168,6 +172,7 @@ impl<N, F: Drop> Stay<'_, N, F> {
             folder,
             held,
             door,
+            ledger,
             err,
         })
     }
@@ -195,14 +200,15 @@ pub fn live<
     N: Net<Listener = TcpListener, Stream = TcpStream>,
     F: Folder + Copy + Send + Sync,
     O: Write,
+    L: Pages + Sync,
 >(
     host: &Host<'_, R>,
     staffed: Staffed<B, H>,
-    stay: Stay<'_, N, F>,
+    stay: Stay<'_, N, F, L>,
     out: &mut O,
 ) -> Result<Left, Unbegun>
     requires some { 0 < vec_len staffed.seats }
-    requires all { staffed.cluster.passes ≤ vec_len staffed.seats + vec_len staffed.begun.spares + 1 }
+    requires all { staffed.cluster.passes ≤ 2 * vec_len staffed.seats + vec_len staffed.begun.spares + 1 }
     requires few { vec_len staffed.begun.spares ≤ 16 }
     requires spot { staffed.cluster.first ≡ B.first }
     requires begun { HasBegunWith stay.folder staffed.cluster.first staffed.cluster.vnodes stay.held.files.items staffed.begun }
@@ -216,6 +222,7 @@ pub fn live<
         folder,
         held,
         door,
+        ledger,
         err,
     } = stay;
     let Staffed {
@@ -253,12 +260,12 @@ pub fn live<
     };
     loads_stand();
     match door {
-        Door::Open(lobby) => left_of(crew::serve(host, cluster, crew, lobby, &fronts)),
+        Door::Open(lobby) => left_of(crew::serve(host, cluster, crew, lobby, &fronts, ledger)),
         Door::Closed(address) => {
             let addr = address.bound.addr;
             let lobby = open_lobby(host.alloc, address, workers, err)?;
             tell_begun(loaded, addr, out)?;
-            left_of(crew::serve(host, cluster, crew, &lobby, &fronts))
+            left_of(crew::serve(host, cluster, crew, &lobby, &fronts, ledger))
         }
     }
 }

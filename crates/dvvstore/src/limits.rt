@@ -48,6 +48,9 @@ pub(crate) const FOLLOW_BREATH_MS: u64 = 1;
 
 // ---- workers
 
+/// The name of a bucket has no more bytes than this.
+pub(crate) const MAX_NAME_BYTES: usize = 65_535;
+
 /// How long a worker waits at the most for something to do, in milliseconds.
 pub(crate) const WORKER_WAIT_MS: u64 = 500;
 
@@ -76,6 +79,9 @@ pub(crate) const LOAD_NAP_MS: u64 = 1;
 
 /// How long is waited before it is looked again whether a snapshot is due or asked for, in milliseconds.
 pub(crate) const SNAPSHOT_TICK_MS: u64 = 100;
+
+/// A snapshot that is wanted, since something can't be kept in the log, begins so long after the last one ended, in milliseconds.
+pub(crate) const WANTED_REST_MS: u64 = 1_000;
 
 /// At most so many keys of a vnode are read in a spell: half of the entries of which the follower keeps what they answered. So what a
 /// client's call answered is kept for longer than a spell lasts.

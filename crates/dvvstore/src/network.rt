@@ -5,8 +5,9 @@ ghost use Rattle.std.specs.Io.KnownBytes.{Appends};
 ghost use Rattle.commands.specs.Command.{HasKept, HasRefused};
 ghost use Rattle.kept_file.specs.Placed.{ArePlaced};
 ghost use Rattle.dvvstore.specs.Crews.{by_digest};
+ghost use Rattle.shared_prefix.specs.Lists.{book_of};
 ghost use Rattle.dvvstore.specs.Keeping.{ArePutOf, HasEnded, IsRefusal, IsUnkept, Keeps};
-ghost use Rattle.dvvstore.specs.Over.{KeptOver, ended_says};
+ghost use Rattle.dvvstore.specs.Over.{IsOpened, KeptOver, ended_says};
 
 use crate::crew::Served;
 use crate::host::Host;
@@ -23,19 +24,26 @@ use bpf_helpers::Table;
 use commands::server::{Ended, Post, Says, Server, Site, Unserved};
 use dvv::VNODES_PER_NUMBER;
 use kept_file::placed;
-use kept_folder::{Folder, Held, Logs, OpenFault, Opened, Unreplaced, keep_all, keep_number};
+use kept_folder::{
+    FileFault, Folder, Held, LogFolder, Logs, OpenFault, Opened, Unreplaced, keep_all, keep_number,
+};
 use kept_hooks::Requests;
+use log_desk::{HooksFile, NoLedger, PageFault, Pages};
+use log_writer::Sheet;
 use server_accept::{Bound, Setup, open, tell_listening};
+use shared_prefix::Naming;
 use std::alloc::{AllocError, Global};
 use std::fmt::Display;
 use std::io;
 use std::io::{Eprint as _, ErrorKind, Stderr, Stdin, Write};
+use std::marker::Brand;
 use std::net::{Net, TcpListener, TcpStream};
 use std::random::RandomSource;
 use std::rt::Clock;
 use std::sync::Wait;
 use std::thread::{Parker, Threads};
 use std::time::Duration;
+use thiserror::Error;
 use vnode::{Seed, Vnode};
 
 /// What is said of the journals of a store: a yes is that of who has followed them, since nobody else can make one.
@@ -154,6 +162,7 @@ impl<
             folder: None::<SystemFolder<'_>>,
             held: Held::nothing(alloc),
             door: Door::<'_, R>::Open(&lobby),
+            ledger: &NoLedger,
             err: self.err,
         };
         match session::live(&self.host(alloc), making, more, stay, &mut io::sink()) {
@@ -217,7 +226,7 @@ struct Keeping<'a, N> {
 fn keep_over<
     R: Threads + Wait + Sync,
     N: Net<Listener = TcpListener, Stream = TcpStream>,
-    F: Folder + Copy + Send + Sync,
+    F: Folder + LogFolder + HooksFile + Copy + Send + Sync,
     O: Write,
 >(
     host: &Host<'_, R>,
@@ -232,20 +241,100 @@ fn keep_over<
     ensures untold { IfErr result (λ why. why ≡ Unserved.NoMemory → O.contents out.new ≡ O.contents out.old) }
     ensures kept { IfOk result (KeptOver F.finds F.does keeping.entry.minute (map (λ t. t.listed) keeping.entry.tables.items) folder.old folder.new) }
 {
-    let Keeping {
-        minute,
-        seed,
-        tables,
-        address,
-        err,
-    } = keeping;
-    let opened = match kept_folder::open(host.alloc, host.rt, folder, minute) {
+    let opened = match kept_folder::open(host.alloc, host.rt, folder, keeping.minute) {
         Ok(opened) => opened,
         Err(OpenFault::NoMemory) => return Err(Unserved::NoMemory),
         Err(why) => return Err(refused(host.alloc, out, &why)),
     };
+    keep_logged::<Brand, R, N, F, O>(
+        host,
+        folder,
+        opened,
+        shared_prefix::Opened::new(),
+        keeping,
+        out,
+    )
+}
+
+/// The same of a folder that was opened, with a log of what is written, whose list of sheets is new.
+fn keep_logged<
+    J: Naming + Send + Sync,
+    R: Threads + Wait + Sync,
+    N: Net<Listener = TcpListener, Stream = TcpStream>,
+    F: Folder + LogFolder + HooksFile + Copy + Send + Sync,
+    O: Write,
+>(
+    host: &Host<'_, R>,
+    folder: &mut F,
+    opened: Opened,
+    list: shared_prefix::Opened<Sheet>,
+    keeping: Keeping<'_, N>,
+    out: &mut O,
+) -> Result<Ended<Said>, Unserved>
+    requires list { book_of list ≡ J.book }
+    requires some { 0 < vec_len keeping.tables }
+    requires few { vec_len keeping.tables ≤ 16 }
+    ensures told { IfOk result (HasKept (O.contents out.old) (O.contents out.new)) }
+    ensures refused { IfErr result (λ why. why ≡ Unserved.Refused → HasRefused (O.contents out.old) (O.contents out.new)) }
+    ensures untold { IfErr result (λ why. why ≡ Unserved.NoMemory → O.contents out.new ≡ O.contents out.old) }
+    ensures kept { (minute : ℕ) (before : F) → IsOpened F.finds F.does minute before opened folder.old → IfOk result (KeptOver F.finds F.does minute (map (λ t. t.listed) keeping.entry.tables.items) before folder.new) }
+{
+    let (err, settings, logs) = (keeping.err, opened.held.settings, opened.held.logs);
+    tell_cut(err, logs);
+    let desk = match log_desk::open::<F, J>(host.alloc, *folder, settings.sync, logs, list) {
+        Ok(desk) => desk,
+        Err(FileFault::NoMemory) => return Err(Unserved::NoMemory),
+        Err(fault) => return Err(refused(host.alloc, out, &Unlogged(fault))),
+    };
+    let ended = keep_opened(host, folder, opened, keeping, &desk, out)?;
+    if matches!(&ended, Ended::Kept(_)) {
+        tell_left(err, desk.close(host.rt));
+    }
+    Ok(ended)
+}
+
+/// Tells which log is left behind a stop, if one is. What can't be told is lost.
+fn tell_left(err: Stderr, came: Result<(), PageFault>) {
+    if let Err(fault) = came {
+        let _ = err.eprintln(format_args!("{fault}"));
+    }
+}
+
+/// Why no log is begun.
+#[derive(Clone, Copy, Debug, PartialEq, Eq, Error)]
+#[error("log: {0}")]
+struct Unlogged(FileFault);
+
+/// The same, where what is written is kept by a ledger before it is answered.
+fn keep_opened<
+    R: Threads + Wait + Sync,
+    N: Net<Listener = TcpListener, Stream = TcpStream>,
+    F: Folder + Copy + Send + Sync,
+    O: Write,
+    L: Pages + Sync,
+>(
+    host: &Host<'_, R>,
+    folder: &mut F,
+    opened: Opened,
+    keeping: Keeping<'_, N>,
+    ledger: &L,
+    out: &mut O,
+) -> Result<Ended<Said>, Unserved>
+    requires some { 0 < vec_len keeping.tables }
+    requires few { vec_len keeping.tables ≤ 16 }
+    ensures told { IfOk result (HasKept (O.contents out.old) (O.contents out.new)) }
+    ensures refused { IfErr result (λ why. why ≡ Unserved.Refused → HasRefused (O.contents out.old) (O.contents out.new)) }
+    ensures untold { IfErr result (λ why. why ≡ Unserved.NoMemory → O.contents out.new ≡ O.contents out.old) }
+    ensures kept { (minute : ℕ) (before : F) → IsOpened F.finds F.does minute before opened folder.old → IfOk result (KeptOver F.finds F.does minute (map (λ t. t.listed) keeping.entry.tables.items) before folder.new) }
+{
+    let Keeping {
+        seed,
+        tables,
+        address,
+        err,
+        ..
+    } = keeping;
     let Opened { number, held } = opened;
-    tell_cut(err, held.logs);
     let spread = Spread::among(held.vnodes(), tables.len(), held.settings.copies);
     let Ok(held) = held_for(host.alloc, spread, held) else {
         return Err(Unserved::NoMemory);
@@ -259,6 +348,7 @@ fn keep_over<
         folder: Some(*folder),
         held,
         door: Door::Closed(address),
+        ledger,
         err,
     };
     match session::live(host, making, tables, stay, out) {

@@ -6,7 +6,7 @@ ghost use Rattle.dvvstore.specs.Asides.{AllRead, AreAllKept, AreListed, IsKept, 
 mod stride;
 
 use crate::crew::{Signs, Until};
-use crate::limits::{SECOND_MS, SNAPSHOT_TICK_MS};
+use crate::limits::{SECOND_MS, SNAPSHOT_TICK_MS, WANTED_REST_MS};
 use crate::saver::stride::Stride;
 use cluster::{Cluster, Pass, Room};
 use cluster_peers::ClusterPeers;
@@ -16,6 +16,7 @@ use kept_folder::{
     FileFault, Folder, HOOKS, Unreplaced, WriteFault, keep_number, keep_requests, keep_served,
 };
 use kept_restore::processors;
+use log_desk::{Page, Pages};
 use server_accept::Timer;
 use std::alloc::Global;
 use std::io::{Eprint, Stderr};
@@ -89,12 +90,13 @@ impl<F: Folder + Copy + Send + Sync> Saver<F> {
     /// Makes snapshots until all workers have ended, by calls on the vnodes through passes: what each is told comes behind what it was told
     /// before. One that is under way when the server is told to stop is given up, and another begins. The passes come back.
     #[tactic(auto, using(crate::proofs::Growing::all_read_same))]
-    pub fn run<B: Room + Send + Sync, R: Threads + Wait + Sync>(
+    pub fn run<B: Room + Send + Sync, R: Threads + Wait + Sync, L: Pages>(
         &mut self,
         rt: &R,
         cluster: &Cluster<B>,
         mut spares: Vec<Pass<B>>,
         signs: &Signs<'_>,
+        ledger: &L,
     ) -> Vec<Pass<B>>
         requires few { vec_len spares ≤ 16 }
         ensures read { AllRead cluster.now.first spares.items result.items }
@@ -108,15 +110,39 @@ impl<F: Folder + Copy + Send + Sync> Saver<F> {
                 break;
             }
             let signs = signs.from_now();
-            let is_asked = signs.lobby.roster.snapshots.take();
+            let is_asked = signs.lobby.roster.snapshots.take()
+                || self.is_wanted(rt, ledger, timer.now().saturating_sub(schedule.last));
             if is_asked || (signs.is_written() && schedule.is_due(signs.until, timer.now())) {
+                let page = ledger.turn(rt, timer.now());
                 let (back, keys) = self.save(rt, cluster, spares, &signs);
+                if keys > 0 {
+                    self.settle(rt, ledger, page);
+                }
                 spares = back;
                 let keys = (keys / cluster.count().max(1)) as u64;
                 schedule.note(signs.until, keys, timer.now());
             }
         }
         spares
+    }
+
+    /// Whether a ledger wants a snapshot, and the last one ended long enough ago, so many milliseconds. Why is told, if it can be.
+    fn is_wanted<R: Wait, L: Pages>(&self, rt: &R, ledger: &L, rested: u64) -> bool {
+        if rested < WANTED_REST_MS {
+            return false;
+        }
+        let Some(fault) = ledger.wanted(rt) else {
+            return false;
+        };
+        let _ = self.err.eprintln(format_args!("{fault}"));
+        true
+    }
+
+    /// Removes the logs whose records are all in a snapshot that is whole. What can't be is told, and left to the next one.
+    fn settle<R: Wait, L: Pages>(&self, rt: &R, ledger: &L, page: Page) {
+        if let Err(fault) = ledger.settle(rt, page) {
+            let _ = self.err.eprintln(format_args!("{fault}"));
+        }
     }
 
     /// Makes a snapshot, and tells it, or why some of it is not kept. One that is given up is not told. Answers how many keys were read: none
@@ -277,6 +303,7 @@ impl<F: Folder> Shelf<F> {
         ensures put { OnOk result (AreListed F.does self.old.folder self.new.folder) }
         ensures first { self.new.first ≡ self.old.first }
     {
+        let _filing = signs.filing.lock(rt);
         match signs.requests(rt) {
             Ok(Some(requests)) => keep_requests(self.alloc, &mut self.folder, Some(&requests)),
             _ => keep_requests(self.alloc, &mut self.folder, None),

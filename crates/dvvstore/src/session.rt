@@ -1,6 +1,6 @@
 //! The store of several workers, from its opening to what is left of it.
 
-ghost use Rattle.std.specs.Prelude.{◌≡◌, ◌+◌, ◌<◌, ◌≤◌, ◌^◌, [], All, IfOk, OnOk, map, reverse, vec_len};
+ghost use Rattle.std.specs.Prelude.{◌≡◌, ◌+◌, ◌*◌, ◌<◌, ◌≤◌, ◌^◌, [], All, IfOk, OnOk, map, reverse, vec_len};
 ghost use Rattle.hook_sharing.specs.Lists.{list_of};
 ghost use Rattle.cluster_stamps.specs.Rule.{newcomer};
 ghost use Rattle.cluster_vnode.specs.Calls.{pass_view};
@@ -10,6 +10,7 @@ ghost use Rattle.hook_sharing.specs.Taking.{Takes};
 ghost use Rattle.dvvstore.specs.Keeping.{HasBegunWith, Leaves, LeavesFolded, LeavesServed, Tells, fronts_for, hooks_for};
 ghost use Rattle.dvvstore.specs.Visits.{BeginOver};
 
+use crate::crew::aside::{Aside, Passes};
 use crate::crew::{Lookout, Seat, Served};
 use crate::host::Host;
 use crate::keeper::{Begun, Staffed, Stay, Unbegun};
@@ -24,6 +25,7 @@ use hook_sharing::{Ground, HookReader, Installer, Opening, Rack, WorkerHooks, op
 use kept_folder::Folder;
 use kept_hooks::Requests;
 use kept_restore::Loader;
+use log_desk::Pages;
 use quorum::Hooking;
 use shared_prefix::Naming;
 use std::alloc::{AllocError, Global};
@@ -69,7 +71,7 @@ struct Undrawn {
 struct Vnodes<B: Room + Spot> {
     cluster: Cluster<B>,
     /// The passes of workers.
-    passes: Vec<Pass<B>>,
+    passes: Vec<Passes<B>>,
     /// Who follows what workers do.
     lookout: Lookout<B>,
     /// With what they have begun.
@@ -101,17 +103,18 @@ pub fn live<
     N: Net<Listener = TcpListener, Stream = TcpStream>,
     F: Folder + Copy + Send + Sync,
     O: Write,
+    L: Pages + Sync,
 >(
     host: &Host<'_, R>,
     making: Making,
     tables: Vec<Table>,
-    stay: Stay<'_, N, F>,
+    stay: Stay<'_, N, F, L>,
     out: &mut O,
 ) -> Result<Left, Unbegun>
     requires some { 0 < vec_len tables }
     requires few { vec_len tables ≤ 16 }
     ensures told { Tells stay.entry.door result (O.contents out.old) (O.contents out.new) }
-    ensures kept { LeavesFolded Finds Names Takes stay.entry.folder making.first making.spread.vnodes stay.entry.held.files.items (BeginOver Takes (record { first = making.first; vnodes = making.spread.vnodes; passes = vec_len tables + making.spread.vnodes + 1 }) making.spread.copies (map (λ t. t.listed) tables.items) (hooks_for stay.entry.folder stay.entry.held.hooks.items)) result }
+    ensures kept { LeavesFolded Finds Names Takes stay.entry.folder making.first making.spread.vnodes stay.entry.held.files.items (BeginOver Takes (record { first = making.first; vnodes = making.spread.vnodes; passes = 2 * vec_len tables + making.spread.vnodes + 1 }) making.spread.copies (map (λ t. t.listed) tables.items) (hooks_for stay.entry.folder stay.entry.held.hooks.items)) result }
 {
     let stay = stay.folded(host.alloc, making.first / VNODES_PER_NUMBER)?;
     over_files(host, making, tables, stay, out)
@@ -123,18 +126,19 @@ fn over_files<
     N: Net<Listener = TcpListener, Stream = TcpStream>,
     F: Folder + Copy + Send + Sync,
     O: Write,
+    L: Pages + Sync,
 >(
     host: &Host<'_, R>,
     making: Making,
     tables: Vec<Table>,
-    stay: Stay<'_, N, F>,
+    stay: Stay<'_, N, F, L>,
     out: &mut O,
 ) -> Result<Left, Unbegun>
     requires some { 0 < vec_len tables }
     requires few { vec_len tables ≤ 16 }
     ensures told { Tells stay.entry.door result (O.contents out.old) (O.contents out.new) }
     ensures kept { Leaves stay.entry.folder making.first making.spread.vnodes stay.entry.held.files.items result }
-    ensures served { LeavesServed Finds Names Takes (fronts_for stay.entry.folder making.spread.vnodes stay.entry.held.files.items) making.spread.vnodes (BeginOver Takes (record { first = making.first; vnodes = making.spread.vnodes; passes = vec_len tables + making.spread.vnodes + 1 }) making.spread.copies (map (λ t. t.listed) tables.items) (hooks_for stay.entry.folder stay.entry.held.hooks.items)) result }
+    ensures served { LeavesServed Finds Names Takes (fronts_for stay.entry.folder making.spread.vnodes stay.entry.held.files.items) making.spread.vnodes (BeginOver Takes (record { first = making.first; vnodes = making.spread.vnodes; passes = 2 * vec_len tables + making.spread.vnodes + 1 }) making.spread.copies (map (λ t. t.listed) tables.items) (hooks_for stay.entry.folder stay.entry.held.hooks.items)) result }
 {
     let size = Size {
         first: making.first,
@@ -148,7 +152,7 @@ fn over_files<
                 stamps,
                 card,
             };
-            over_stamps::<Brand, R, N, F, O>(host, undrawn, tables, stay, out)
+            over_stamps::<Brand, R, N, F, O, L>(host, undrawn, tables, stay, out)
         }
         Err(_) => Err(Unbegun::NoMemory),
     }
@@ -161,22 +165,23 @@ fn over_stamps<
     N: Net<Listener = TcpListener, Stream = TcpStream>,
     F: Folder + Copy + Send + Sync,
     O: Write,
+    L: Pages + Sync,
 >(
     host: &Host<'_, R>,
     undrawn: Undrawn,
     tables: Vec<Table>,
-    stay: Stay<'_, N, F>,
+    stay: Stay<'_, N, F, L>,
     out: &mut O,
 ) -> Result<Left, Unbegun>
     requires some { 0 < vec_len tables }
     requires few { vec_len tables ≤ 16 }
     requires table { (undrawn.stamps.table.shared.table_id ≡ B.table) × (undrawn.card.table_id ≡ B.table) }
-    requires size { undrawn.stamps.table.shared.key ≡ record { first = undrawn.making.first; vnodes = undrawn.making.spread.vnodes; passes = vec_len tables + undrawn.making.spread.vnodes + 1 } }
+    requires size { undrawn.stamps.table.shared.key ≡ record { first = undrawn.making.first; vnodes = undrawn.making.spread.vnodes; passes = 2 * vec_len tables + undrawn.making.spread.vnodes + 1 } }
     requires spot { undrawn.making.first ≡ B.first }
     requires card { undrawn.card.me ≡ (newcomer undrawn.stamps.table.shared.key, []) }
     ensures told { Tells stay.entry.door result (O.contents out.old) (O.contents out.new) }
     ensures kept { Leaves stay.entry.folder undrawn.making.first undrawn.making.spread.vnodes stay.entry.held.files.items result }
-    ensures served { LeavesServed Finds Names Takes (fronts_for stay.entry.folder undrawn.making.spread.vnodes stay.entry.held.files.items) undrawn.making.spread.vnodes (BeginOver Takes (record { first = undrawn.making.first; vnodes = undrawn.making.spread.vnodes; passes = vec_len tables + undrawn.making.spread.vnodes + 1 }) undrawn.making.spread.copies (map (λ t. t.listed) tables.items) (hooks_for stay.entry.folder stay.entry.held.hooks.items)) result }
+    ensures served { LeavesServed Finds Names Takes (fronts_for stay.entry.folder undrawn.making.spread.vnodes stay.entry.held.files.items) undrawn.making.spread.vnodes (BeginOver Takes (record { first = undrawn.making.first; vnodes = undrawn.making.spread.vnodes; passes = 2 * vec_len tables + undrawn.making.spread.vnodes + 1 }) undrawn.making.spread.copies (map (λ t. t.listed) tables.items) (hooks_for stay.entry.folder stay.entry.held.hooks.items)) result }
 {
     let Making { seed, spread, .. } = undrawn.making;
     let vnodes = begin(host, undrawn, tables.len(), &stay)?;
@@ -186,25 +191,25 @@ fn over_stamps<
         spread,
     };
     let opening = Opening::seeded(seed.build_hasher());
-    over_cluster::<B, Brand, R, N, F, O>(host, parts, opening, stay, out)
+    over_cluster::<B, Brand, R, N, F, O, L>(host, parts, opening, stay, out)
 }
 
 /// Opens vnodes for so many workers, and has them take over what a folder held, each by a pass of its own, by which it is read for
 /// snapshots later, while that is followed by the last of the passes. Where no folder keeps the store they begin with nothing.
-fn begin<B: Room + Spot + Send + Sync, R: Threads + Wait + Sync, N, F: Copy>(
+fn begin<B: Room + Spot + Send + Sync, R: Threads + Wait + Sync, N, F: Copy, L>(
     host: &Host<'_, R>,
     undrawn: Undrawn,
     workers: usize,
-    stay: &Stay<'_, N, F>,
+    stay: &Stay<'_, N, F, L>,
 ) -> Result<Vnodes<B>, Unbegun>
     requires few { workers ≤ 16 }
     requires table { (undrawn.stamps.table.shared.table_id ≡ B.table) × (undrawn.card.table_id ≡ B.table) }
-    requires size { undrawn.stamps.table.shared.key ≡ record { first = undrawn.making.first; vnodes = undrawn.making.spread.vnodes; passes = workers + undrawn.making.spread.vnodes + 1 } }
+    requires size { undrawn.stamps.table.shared.key ≡ record { first = undrawn.making.first; vnodes = undrawn.making.spread.vnodes; passes = 2 * workers + undrawn.making.spread.vnodes + 1 } }
     requires spot { undrawn.making.first ≡ B.first }
     requires card { undrawn.card.me ≡ (newcomer undrawn.stamps.table.shared.key, []) }
     ensures first { IfOk result (λ vnodes. vnodes.cluster.first ≡ undrawn.making.first) }
     ensures vnodes { IfOk result (λ vnodes. vnodes.cluster.vnodes ≡ undrawn.making.spread.vnodes) }
-    ensures all { IfOk result (λ vnodes. vnodes.cluster.passes ≡ workers + undrawn.making.spread.vnodes + 1) }
+    ensures all { IfOk result (λ vnodes. vnodes.cluster.passes ≡ 2 * workers + undrawn.making.spread.vnodes + 1) }
     ensures spares { IfOk result (λ vnodes. vec_len vnodes.begun.spares ≡ undrawn.making.spread.vnodes) }
     ensures passes { IfOk result (λ vnodes. vec_len vnodes.passes ≡ workers) }
     ensures begun { IfOk result (λ vnodes. HasBegunWith stay.now.folder undrawn.making.first undrawn.making.spread.vnodes stay.now.held.files.items vnodes.begun) }
@@ -229,6 +234,7 @@ fn begin<B: Room + Spot + Send + Sync, R: Threads + Wait + Sync, N, F: Copy>(
     };
     let (cluster, mut passes) = Cluster::<B>::open(alloc, seed, stamps, card, &size)?;
     let loaders = loaders_of(alloc, &mut passes, vnodes)?;
+    let of_workers = dealt(alloc, &mut passes, workers)?;
     let fronts = stay.fronts(alloc, vnodes)?;
     let start = Start {
         seed,
@@ -247,18 +253,19 @@ fn begin<B: Room + Spot + Send + Sync, R: Threads + Wait + Sync, N, F: Copy>(
     };
     Ok(Vnodes {
         cluster,
-        passes,
+        passes: of_workers,
         lookout,
         begun,
     })
 }
 
-/// How many passes there are: one for each worker, one for each vnode, by which that takes over what it begins with, and the follower's.
+/// How many passes there are: two for each worker, by one of which it reads what it wrote, one for each vnode, by which that takes over what
+/// it begins with, and the follower's.
 fn passes_for(workers: usize, spread: Spread) -> usize
     requires { workers ≤ 16 }
-    ensures { result ≡ workers + spread.vnodes + 1 }
+    ensures { result ≡ 2 * workers + spread.vnodes + 1 }
 {
-    workers + spread.vnodes as usize + 1
+    2 * workers + spread.vnodes as usize + 1
 }
 
 /// A loader for each of so many vnodes, with the last of some passes.
@@ -283,6 +290,31 @@ fn loaders_of<B: Room>(
     Ok(loaders)
 }
 
+/// The passes of so many workers, two for each, with the last of some.
+fn dealt<B: Room>(
+    alloc: Global,
+    passes: &mut Vec<Pass<B>>,
+    workers: usize,
+) -> Result<Vec<Passes<B>>, AllocError>
+    requires enough { 2 * workers ≤ vec_len passes.old }
+    requires fresh { All (λ p. p ≡ pass_view 0 []) passes.old.items }
+    ensures left { OnOk result (vec_len passes.new + 2 * workers ≡ vec_len passes.old) }
+    ensures fresh { OnOk result (All (λ p. p ≡ pass_view 0 []) passes.new.items) }
+    ensures count { IfOk result (λ dealt. vec_len dealt ≡ workers) }
+{
+    let mut dealt = Vec::new(alloc);
+    for _dealt in 0..workers {
+        let (Some(pass), Some(aside)) = (passes.pop(), passes.pop()) else {
+            unreachable!();
+        };
+        dealt.push(Passes {
+            pass,
+            aside: Aside::new(aside),
+        })?;
+    }
+    Ok(dealt)
+}
+
 /// The passes of loaders.
 fn passes_of<B: Room>(alloc: Global, loaders: Vec<Loader<B>>) -> Result<Vec<Pass<B>>, AllocError>
     ensures same { IfOk result (λ passes. passes.items ≡ map (λ l. l.pass) loaders.items) }
@@ -303,18 +335,19 @@ fn over_cluster<
     N: Net<Listener = TcpListener, Stream = TcpStream>,
     F: Folder + Copy + Send + Sync,
     O: Write,
+    L: Pages + Sync,
 >(
     host: &Host<'_, R>,
     parts: Parts<B>,
     opening: Opening,
-    stay: Stay<'_, N, F>,
+    stay: Stay<'_, N, F, L>,
     out: &mut O,
 ) -> Result<Left, Unbegun>
     requires list { list_of opening ≡ J.book }
     requires some { 0 < vec_len parts.tables }
     requires few { vec_len parts.tables ≤ 16 }
     requires each { vec_len parts.vnodes.passes ≡ vec_len parts.tables }
-    requires all { parts.vnodes.cluster.passes ≡ vec_len parts.tables + parts.vnodes.cluster.vnodes + 1 }
+    requires all { parts.vnodes.cluster.passes ≡ 2 * vec_len parts.tables + parts.vnodes.cluster.vnodes + 1 }
     requires spares { vec_len parts.vnodes.begun.spares ≡ parts.vnodes.cluster.vnodes }
     requires spot { parts.vnodes.cluster.first ≡ B.first }
     requires vnodes { parts.vnodes.cluster.vnodes ≡ parts.spread.vnodes }
@@ -336,18 +369,19 @@ fn over_ground<
     N: Net<Listener = TcpListener, Stream = TcpStream>,
     F: Folder + Copy + Send + Sync,
     O: Write,
+    L: Pages + Sync,
 >(
     host: &Host<'_, R>,
     parts: Parts<B>,
     ground: Ground<J, T>,
-    stay: Stay<'_, N, F>,
+    stay: Stay<'_, N, F, L>,
     out: &mut O,
 ) -> Result<Left, Unbegun>
     requires ground { (ground.front ≡ []) × (T.state ground.first ≡ []) × (T.state ground.second ≡ []) }
     requires some { 0 < vec_len parts.tables }
     requires few { vec_len parts.tables ≤ 16 }
     requires each { vec_len parts.vnodes.passes ≡ vec_len parts.tables }
-    requires all { parts.vnodes.cluster.passes ≡ vec_len parts.tables + parts.vnodes.cluster.vnodes + 1 }
+    requires all { parts.vnodes.cluster.passes ≡ 2 * vec_len parts.tables + parts.vnodes.cluster.vnodes + 1 }
     requires spares { vec_len parts.vnodes.begun.spares ≡ parts.vnodes.cluster.vnodes }
     requires spot { parts.vnodes.cluster.first ≡ B.first }
     requires vnodes { parts.vnodes.cluster.vnodes ≡ parts.spread.vnodes }
@@ -380,17 +414,18 @@ fn over_hooks<
     N: Net<Listener = TcpListener, Stream = TcpStream>,
     F: Folder + Copy + Send + Sync,
     O: Write,
+    L: Pages + Sync,
 >(
     host: &Host<'r, R>,
     parts: Parts<B>,
     hooked: Hooked<'_, J, T, &'r R>,
-    stay: Stay<'_, N, F>,
+    stay: Stay<'_, N, F, L>,
     out: &mut O,
 ) -> Result<Left, Unbegun>
     requires readers { vec_len hooked.readers ≡ vec_len parts.tables }
     requires some { 0 < vec_len parts.tables }
     requires each { vec_len parts.vnodes.passes ≡ vec_len parts.tables }
-    requires all { parts.vnodes.cluster.passes ≡ vec_len parts.tables + parts.vnodes.cluster.vnodes + 1 }
+    requires all { parts.vnodes.cluster.passes ≡ 2 * vec_len parts.tables + parts.vnodes.cluster.vnodes + 1 }
     requires spares { vec_len parts.vnodes.begun.spares ≡ parts.vnodes.cluster.vnodes }
     requires spot { parts.vnodes.cluster.first ≡ B.first }
     requires vnodes { parts.vnodes.cluster.vnodes ≡ parts.spread.vnodes }
@@ -421,11 +456,11 @@ fn over_hooks<
     keeper::live(host, staffed, stay, out)
 }
 
-/// A seat for each pass, with a table and a reader of hooks of its own: the last of those that are left. Keys stand where their digests
-/// say, as they are spread.
+/// A seat for each worker's passes, with a table and a reader of hooks of its own: the last of those that are left. Keys stand where their
+/// digests say, as they are spread.
 fn seats_of<'a, B: Room, J: Naming, T: Rack<J> + Drop, R: Wait + Drop>(
     alloc: Global,
-    passes: Vec<Pass<B>>,
+    passes: Vec<Passes<B>>,
     mut tables: Vec<Table>,
     hooked: Hooked<'a, J, T, R>,
     spread: Spread,
@@ -433,7 +468,7 @@ fn seats_of<'a, B: Room, J: Naming, T: Rack<J> + Drop, R: Wait + Drop>(
     requires each { vec_len passes ≡ vec_len tables }
     requires readers { vec_len hooked.readers ≡ vec_len tables }
     ensures count { IfOk result (λ seats. vec_len seats ≡ vec_len passes) }
-    ensures passes { IfOk result (λ seats. map (λ s. s.pass) seats.items ≡ passes.items) }
+    ensures passes { IfOk result (λ seats. map (λ s. s.pass) seats.items ≡ map (λ p. p.pass) passes.items) }
     ensures tables { IfOk result (λ seats. map (λ s. s.hooking.table) seats.items ≡ reverse tables.items) }
     ensures readers { IfOk result (λ seats. map (λ s. s.hooking.hooks) seats.items ≡ reverse hooked.entry.readers.items) }
     ensures placed { IfOk result (λ seats. AreAllPlaced spread.vnodes spread.copies (map (λ s. s.placement) seats.items)) }
@@ -444,13 +479,15 @@ fn seats_of<'a, B: Room, J: Naming, T: Rack<J> + Drop, R: Wait + Drop>(
         mut readers,
     } = hooked;
     let mut seats = Vec::with_capacity(alloc, passes.len())?;
-    for pass in passes {
+    for worker in passes {
         let (Some(table), Some(reader)) = (tables.pop(), readers.pop()) else {
             unreachable!();
         };
+        let Passes { pass, aside } = worker;
         let hooks = WorkerHooks::new(reader, installer, handle);
         seats.push_reserved(Seat {
             pass,
+            aside,
             hooking: Hooking::new(alloc, hooks, table),
             placement: spread.placement(),
             place: tables.len(),

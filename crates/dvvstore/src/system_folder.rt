@@ -1,6 +1,8 @@
 //! The folder of a store that is kept, in the system's files.
 
-use kept_folder::{FileFault, Folder};
+use kept_folder::{FileFault, Folder, LogFolder, keep_requests};
+use log_desk::HooksFile;
+use log_system::SystemLog;
 use std::alloc::{AllocError, Global};
 use std::fs::OpenFile as _;
 use std::io::{ErrorKind, Read as _};
@@ -206,6 +208,64 @@ impl Folder for SystemFolder<'_> {
     fn force_names(&mut self) -> Result<(), FileFault> {
         let folder = done(fs::File::open(self.rt, self.path))?;
         done(folder.sync_all())
+    }
+}
+
+impl SystemFolder<'_> {
+    // The path of the log with a number.
+    fn log_path(&self, number: u64) -> Result<String, FileFault> {
+        let path = self.path;
+        Ok(format!(in self.alloc; "{path}/log-{number}")?)
+    }
+}
+
+impl LogFolder for SystemFolder<'_> {
+    type Log = SystemLog;
+
+    ghost holds = { λ _ _ _. Unit {0} };
+
+    ghost begins = { λ _ _ _. Unit {0} };
+
+    ghost removes = { λ _ _ _. Unit {0} };
+
+    fn begin_log(&mut self, number: u64) -> Result<SystemLog, FileFault> {
+        self.look()?;
+        let path = self.log_path(number)?;
+        done(fs::File::create(self.rt, path.as_str()))?;
+        let opened = fs::OpenOptions::new()
+            .append(true)
+            .open(self.rt, path.as_str());
+        let file = done(opened)?;
+        self.force_names()?;
+        Ok(SystemLog::over(file, &[]))
+    }
+
+    fn open_log(&self, alloc: Global, number: u64) -> Result<(SystemLog, Vec<u8>), FileFault> {
+        self.look()?;
+        let path = self.log_path(number)?;
+        let mut bytes = Vec::new(alloc);
+        let mut held = done(fs::File::open(self.rt, path.as_str()))?;
+        done(held.read_to_end(&mut bytes))?;
+        let opened = fs::OpenOptions::new()
+            .append(true)
+            .open(self.rt, path.as_str());
+        let file = done(opened)?;
+        let log = SystemLog::over(file, &bytes);
+        Ok((log, bytes))
+    }
+
+    fn remove_log(&mut self, number: u64) -> Result<(), FileFault> {
+        self.look()?;
+        let path = self.log_path(number)?;
+        done(fs::remove_file(self.rt, path.as_str()))
+    }
+}
+
+impl HooksFile for SystemFolder<'_> {
+    ghost keeps = { λ _ _ _. Unit {0} };
+
+    fn keep_hooks(&mut self, alloc: Global, requests: &[u8]) -> bool {
+        keep_requests(alloc, self, Some(requests)).is_ok()
     }
 }
 

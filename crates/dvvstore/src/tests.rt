@@ -16,6 +16,7 @@ use audit_faults::{Followed, WatchFault};
 use bpf_helpers::Table;
 use dvv::VNODES_PER_NUMBER;
 use kept_folder::Held;
+use log_desk::NoLedger;
 use mio::net::TcpListener;
 use server_accept::{Lobby, Setup, open};
 use std::alloc::{AllocError, Global};
@@ -273,6 +274,7 @@ fn two_workers(rt: HostRuntime) -> Result<(), Fail> {
                     folder: None::<SystemFolder<'_>>,
                     held: Held::nothing(alloc),
                     door: Door::<'_, HostRuntime>::Open(hall),
+                    ledger: &NoLedger,
                     err,
                 };
                 said_of(session::live(&host, making, tables, stay, &mut io::sink()))

@@ -5,3 +5,4 @@ mod Naming
 mod Putting
 mod Storing
 mod Setting
+mod Tearing

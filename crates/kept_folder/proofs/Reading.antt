@@ -1,5 +1,5 @@
 -- Files of vnodes, read one after another, and the logs behind them.
-use Rattle.std.proofs.Common.{◌≡◌, ℕ, ◌+◌, ◌<◌, ◌≤◌, ◌%◌, List, [], ◌∷◌, ◌++◌, Bool, true, false, Option, None, Some, refl, sym, ap, subst, ◌∙◌, arith, get_or, if◌then◌else◌, length, take, ⊎_elim, ◌⊎◌, inl, inr, eq-eqb, option_to_list}
+use Rattle.std.proofs.Common.{◌≡◌, ℕ, ◌+◌, ◌<◌, ◌≤◌, ◌%◌, List, [], ◌∷◌, ◌++◌, true, false, Option, None, Some, refl, sym, ap, subst, ◌∙◌, arith, get_or, if◌then◌else◌, length, take, ⊎_elim, ◌⊎◌, inl, inr, eq-eqb, option_to_list}
 use Rattle.std.specs.Prelude.{max}
 use Rattle.std.specs.List.{AllByRecursion}
 use Rattle.std.proofs.lemmas.Bool.{cases_lt, ne_eqb}
@@ -10,7 +10,7 @@ use Rattle.kept_file.specs.declared.file.Source.{Source}
 use Rattle.kept_file.specs.declared.file.Source.TheVariants.{Log, Vnode}
 use Rattle.record_codec.specs.declared.record.Record.{Record}
 use Rattle.kept_folder.specs.declared.logs.Logs.{Logs}
-use Rattle.kept_folder.specs.Reads.{AreAllFiles, AreEnded, AreLogs, IsFileIn, IsFoundAt, IsReadAt, IsVnodeIn, name_of, vnodes_in, vnodes_of}
+use Rattle.kept_folder.specs.Reads.{AreEnded, AreLogs, IsFileIn, IsFoundAt, IsReadAt, IsVnodeIn, name_of, vnodes_in, vnodes_of}
 
 -- a file is that of a vnode with an index below a number
 abbrev IsBelow : ℕ → KeptFile → Type 0

@@ -4,3 +4,4 @@ pub mod Numbers
 pub mod Settings
 pub mod Steps
 pub mod Faults
+pub mod Ends

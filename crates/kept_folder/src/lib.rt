@@ -10,6 +10,7 @@
 mod files;
 mod limits;
 mod lines;
+mod log_folder;
 mod logs;
 mod names;
 mod opening;
@@ -18,8 +19,9 @@ mod settings;
 mod writing;
 
 pub use files::{FileFault, Folder};
+pub use log_folder::{LogFolder, end_bytes, end_log};
 pub use logs::{LogFault, Logs};
 pub use names::HOOKS;
 pub use opening::{Held, OpenFault, Opened, keep_number, open};
-pub use settings::Settings;
+pub use settings::{Settings, SyncPolicy};
 pub use writing::{Unreplaced, WriteFault, keep_all, keep_requests, keep_served};

@@ -17,6 +17,13 @@ pub(crate) const SNAPSHOT_WORD: &str = "snapshot ";
 /// What a line begins with that has the number of copies.
 pub(crate) const COPIES_WORD: &str = "copies ";
 
+/// The lines that say when the log is forced: before a write is acknowledged, once a second, or when the system likes.
+pub(crate) const SYNC_ALWAYS: &[u8] = b"sync always\n";
+
+pub(crate) const SYNC_EVERY_SECOND: &[u8] = b"sync everysec\n";
+
+pub(crate) const SYNC_NEVER: &[u8] = b"sync never\n";
+
 /// The requests that install and bind hooks.
 pub const HOOKS: &str = "hooks.requests";
 

@@ -15,7 +15,7 @@ use crate::lines::number_in;
 use crate::logs::{LogFault, Logs, add_logs};
 use crate::names::{HOOKS, INCARNATION, NUMBER_WORD, SETTINGS, name_of};
 use crate::sealing::{seal, unseal};
-use crate::settings::{Settings, USUAL, settings_in};
+use crate::settings::{Settings, SyncPolicy, USUAL, settings_in};
 use crate::writing::{Unreplaced, WriteFault, replace};
 use dvv::VNODES_PER_NUMBER;
 use kept_file::{KeptFile, MAX_NUMBER, Source, Spent, Unkept, next_number, read_file};
@@ -61,6 +61,7 @@ impl Held {
                 every: 0,
                 least: 0,
                 copies: 1,
+                sync: SyncPolicy::Always,
             },
             hooks: Vec::new(alloc),
             files: Vec::new(alloc),
@@ -134,7 +135,7 @@ pub enum OpenFault {
     #[error("folder: {0}")]
     Unlisted(FileFault),
     /// What is set can't be read.
-    #[error("{SETTINGS}: not lines `snapshot SECONDS`, `number N` and `copies 1` to `copies 3`")]
+    #[error("{SETTINGS}: not lines `snapshot SECONDS`, `number N`, `copies 1` to `copies 3` and `sync always`, `everysec` or `never`")]
     Unset,
     /// There are records, and no number of the start that they are of.
     #[error("{INCARNATION}: missing")]

@@ -3,14 +3,27 @@
 ghost use Rattle.std.specs.Prelude.{◌≡◌, ◌≤◌, ◌<◌, ◌++◌, ◌∷◌, List, [], IfOk, IfSome, IsTrue, None, Some, length, unwrap_or};
 ghost use Rattle.std.specs.List.{flat_map};
 ghost use Rattle.kept_folder.specs.declared.settings.Line.{Line as OneLine};
-ghost use Rattle.kept_folder.specs.Settings.{AreLines, IsSetBy, MayStand, copies_in, every_in, least_in, text_of};
+ghost use Rattle.kept_folder.specs.Settings.{IsSetBy, MayStand, Says, sync_or, text_of};
 
 use crate::limits::SNAPSHOT_INTERVAL_S;
 use crate::lines::number_in;
-use crate::names::{COPIES_WORD, NUMBER_WORD, SNAPSHOT_WORD};
+use crate::names::{
+    COPIES_WORD, NUMBER_WORD, SNAPSHOT_WORD, SYNC_ALWAYS, SYNC_EVERY_SECOND, SYNC_NEVER,
+};
 use kept_file::MAX_NUMBER;
 use ring::MAX_COPIES;
 use std::alloc::{AllocError, Global};
+
+/// When what was written to the log is forced to the device.
+#[derive(Clone, Copy, Debug, PartialEq, Eq)]
+pub enum SyncPolicy {
+    /// Before a write is acknowledged: what was acknowledged outlives a crash of the system.
+    Always,
+    /// Once a second: such a crash loses what was acknowledged in about the last second.
+    EverySecond,
+    /// When the system likes: such a crash loses what it hadn't written yet.
+    Never,
+}
 
 /// What is set of a store that is kept.
 #[derive(Clone, Copy, Debug, PartialEq, Eq)]
@@ -21,6 +34,8 @@ pub struct Settings {
     pub least: u32,
     /// So many copies of each key are wanted, 1 to 3.
     pub copies: u32,
+    /// When the log is forced to the device. A process that is killed loses nothing of it in any case.
+    pub sync: SyncPolicy,
 }
 
 /// What is set where nothing is written.
@@ -28,6 +43,7 @@ pub(crate) const USUAL: Settings = Settings {
     every: SNAPSHOT_INTERVAL_S,
     least: 0,
     copies: 1,
+    sync: SyncPolicy::Always,
 };
 
 /// A line of what is set.
@@ -39,6 +55,8 @@ pub(crate) enum Line {
     Number(u32),
     /// How many copies of each key are wanted.
     Copies(u32),
+    /// When the log is forced.
+    Sync(SyncPolicy),
 }
 
 /// What lines say: those of a kind once at most.
@@ -47,6 +65,7 @@ struct Written {
     every: Option<u32>,
     least: Option<u32>,
     copies: Option<u32>,
+    sync: Option<SyncPolicy>,
 }
 
 /// The settings that bytes are, if they are some: a line or more, each of another kind.
@@ -64,13 +83,13 @@ pub(crate) fn settings_in(alloc: Global, bytes: &[u8]) -> Result<Option<Settings
 
 /// What the lines say that bytes are, if they are lines of different kinds.
 fn written_in(alloc: Global, bytes: &[u8]) -> Result<Option<Written>, AllocError>
-    ensures { IfOk result (λ found. IfSome found (λ written. (lines : List OneLine) × (bytes.now ≡ flat_map text_of lines) × AreLines lines
-        × (written.every ≡ every_in lines) × (written.least ≡ least_in lines) × (written.copies ≡ copies_in lines))) }
+    ensures { IfOk result (λ found. IfSome found (λ written. (lines : List OneLine) × (bytes.now ≡ flat_map text_of lines) × Says lines written.every written.least written.copies written.sync)) }
 {
     let mut written = Written {
         every: None,
         least: None,
         copies: None,
+        sync: None,
     };
     let mut left = bytes;
     while !left.is_empty() {
@@ -110,9 +129,27 @@ fn line_in(alloc: Global, bytes: &[u8]) -> Result<Option<Line>, AllocError>
     if let Some(copies) = number_in(alloc, COPIES_WORD, bytes)? {
         return Ok(copies_line(copies));
     }
+    if let Some(sync) = policy_in(bytes) {
+        return Ok(Some(Line::Sync(sync)));
+    }
     match number_in(alloc, NUMBER_WORD, bytes)? {
         Some(least) if least <= MAX_NUMBER => Ok(Some(Line::Number(least))),
         _ => Ok(None),
+    }
+}
+
+/// When the log is forced by a line that says it, if that is what bytes are.
+fn policy_in(bytes: &[u8]) -> Option<SyncPolicy>
+    ensures { IfSome result (λ sync. bytes.now ≡ text_of (Line.Sync sync)) }
+{
+    if bytes == SYNC_ALWAYS {
+        Some(SyncPolicy::Always)
+    } else if bytes == SYNC_EVERY_SECOND {
+        Some(SyncPolicy::EverySecond)
+    } else if bytes == SYNC_NEVER {
+        Some(SyncPolicy::Never)
+    } else {
+        None
     }
 }
 
@@ -130,13 +167,14 @@ fn copies_line(copies: u32) -> Option<Line>
 impl Written {
     /// Adds what a line says. Whether it is the first of its kind; else nothing is to be done with what is written.
     fn add(&mut self, line: Line) -> bool
-        ensures { (lines : List OneLine) → MayStand line [] → self.old.every ≡ every_in lines → self.old.least ≡ least_in lines → self.old.copies ≡ copies_in lines → AreLines lines → IsTrue result
-            → AreLines (lines ++ line ∷ []) × (self.new.every ≡ every_in (lines ++ line ∷ [])) × (self.new.least ≡ least_in (lines ++ line ∷ [])) × (self.new.copies ≡ copies_in (lines ++ line ∷ [])) }
+        ensures { (lines : List OneLine) → MayStand line [] → Says lines self.old.every self.old.least self.old.copies self.old.sync → IsTrue result
+            → Says (lines ++ line ∷ []) self.new.every self.new.least self.new.copies self.new.sync }
     {
         match line {
             Line::Snapshot(every) => is_first(&mut self.every, every),
             Line::Number(least) => is_first(&mut self.least, least),
             Line::Copies(copies) => is_first(&mut self.copies, copies),
+            Line::Sync(sync) => is_first(&mut self.sync, sync),
         }
     }
 
@@ -145,22 +183,24 @@ impl Written {
         ensures every { result.every ≡ unwrap_or self.every 60 }
         ensures least { result.least ≡ unwrap_or self.least 0 }
         ensures copies { result.copies ≡ unwrap_or self.copies 1 }
+        ensures sync { result.sync ≡ sync_or self.sync }
     {
         Settings {
             every: self.every.unwrap_or(USUAL.every),
             least: self.least.unwrap_or(USUAL.least),
             copies: self.copies.unwrap_or(USUAL.copies),
+            sync: self.sync.unwrap_or(USUAL.sync),
         }
     }
 }
 
-/// Has a number stand where none does yet.
-fn is_first(known: &mut Option<u32>, number: u32) -> bool
-    ensures { IsTrue result → (known.old ≡ None) × (known.new ≡ Some number) }
+/// Has a value stand where none does yet.
+fn is_first<T: Copy>(known: &mut Option<T>, value: T) -> bool
+    ensures { IsTrue result → (known.old ≡ None) × (known.new ≡ Some value) }
 {
     if known.is_some() {
         return false;
     }
-    *known = Some(number);
+    *known = Some(value);
     true
 }

@@ -2,11 +2,12 @@
 
 ghost use Rattle.http_request.specs.declared.ask.Call.{Call};
 ghost use Rattle.http_request.specs.declared.ask.Call.TheVariants.{Install, Remove, SetProps};
+ghost use Rattle.key_state.specs.declared.content.Key.{Key as OneKey};
 
 use crate::list::Requests;
 use crate::writes::Writes;
 use http_request::Change;
-use key_state::Bytes;
+use key_state::{Bytes, Key};
 
 /// A list of the changes of hooks.
 pub trait ChangeList {
@@ -43,6 +44,27 @@ pub trait Notes {
 
     /// It was noted that a resolver may be bound from now on.
     ghost resolver_noted: { Type 0 };
+
+    /// It was noted that hooks are changed, or which are bound.
+    ghost hooks_noted: { Type 0 };
+
+    /// A key was noted to which something may be written.
+    ghost key_noted: { OneKey → Type 0 };
+
+    /// A key was noted that is read, to which a resolver may write what it chooses.
+    ghost asked_noted: { OneKey → Type 0 };
+
+    /// Hooks are about to be changed, or which are bound.
+    fn note_hooks(&self)
+        ensures { hooks_noted };
+
+    /// A key is about to be written.
+    fn note_key(&self, key: &Key)
+        ensures { key_noted key.now };
+
+    /// A key is about to be read.
+    fn note_asked(&self, key: &Key)
+        ensures { asked_noted key.now };
 
     /// Something may have been written.
     fn note(&self)
@@ -85,6 +107,18 @@ impl Notes for Writes {
     ghost read_noted = { Unit {0} };
 
     ghost resolver_noted = { Unit {0} };
+
+    ghost hooks_noted = { Unit {0} };
+
+    ghost key_noted = { λ _. Unit {0} };
+
+    ghost asked_noted = { λ _. Unit {0} };
+
+    fn note_hooks(&self) {}
+
+    fn note_key(&self, _key: &Key) {}
+
+    fn note_asked(&self, _key: &Key) {}
 
     fn note(&self) {
         Writes::note(self);

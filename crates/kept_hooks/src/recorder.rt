@@ -23,7 +23,8 @@ use server_store::NotingBackend;
 use std::sync::{Mutex, Wait};
 
 /// A store that writes down what changed its hooks, in a list that it shares with other stores of the same hooks, and notes once a call is
-/// done that may have written something: a key, by a resolver too, or which hooks there are, or are bound.
+/// done that may have written something: a key, by a resolver too, or which hooks there are, or are bound. Before it is done it notes the
+/// key, or that hooks are changed, so that this can be read behind it and be kept before the call is answered.
 ///
 /// The list stays locked while the change is made, so that it has the changes in their order. A change that was refused for want of memory
 /// may stand all the same: that is written down, too. Who takes the note of a write and reads the store then has what was written, or finds
@@ -67,7 +68,9 @@ impl<K: Backend + Drop, R: Wait, L: ChangeList + Drop, N: Notes> Backend
         requires { Fits (K.copies self.old.store) (call.Get key.now r at) }
         ensures given { K.gives self.old.store (call.Get key.now r at) (reply.Got result) self.new.store }
         ensures noted { N.read_noted }
+        ensures asked { N.asked_noted key.now }
     {
+        self.notes.note_asked(key);
         let got = self.store.get(key, r, at);
         self.notes.note_read();
         got
@@ -84,7 +87,9 @@ impl<K: Backend + Drop, R: Wait, L: ChangeList + Drop, N: Notes> Backend
         requires { Fits (K.copies self.old.store) (call.Put key.now seen.now content.now w at) }
         ensures given { K.gives self.old.store (call.Put key.now seen.now content.now w at) (reply.Stored result) self.new.store }
         ensures noted { N.write_noted }
+        ensures key { N.key_noted key.now }
     {
+        self.notes.note_key(key);
         let done = self.store.put(key, seen, content, w, at);
         self.notes.note();
         done
@@ -95,7 +100,9 @@ impl<K: Backend + Drop, R: Wait, L: ChangeList + Drop, N: Notes> Backend
         ensures listed { OnOk result (L.listed (call.Install name.now image.now)) }
         ensures doubted { IfErr result (λ why. why ≡ refusal.NoMemory → L.doubted) }
         ensures noted { N.write_noted }
+        ensures hooks { N.hooks_noted }
     {
+        self.notes.note_hooks();
         let mut list = self.list.lock(self.rt);
         let done = self.store.install(name, image);
         match &done {
@@ -112,7 +119,9 @@ impl<K: Backend + Drop, R: Wait, L: ChangeList + Drop, N: Notes> Backend
         ensures listed { OnOk result (L.listed (call.Remove name.now)) }
         ensures doubted { IfErr result (λ why. why ≡ fault.NoMemory → L.doubted) }
         ensures noted { N.write_noted }
+        ensures hooks { N.hooks_noted }
     {
+        self.notes.note_hooks();
         let mut list = self.list.lock(self.rt);
         let done = self.store.remove(name);
         match &done {
@@ -139,7 +148,9 @@ impl<K: Backend + Drop, R: Wait, L: ChangeList + Drop, N: Notes> Backend
         ensures doubted { IfErr result (λ why. why ≡ fault.NoMemory → L.doubted) }
         ensures resolver { WhereBound resolver.now N.resolver_noted }
         ensures noted { N.write_noted }
+        ensures hooks { N.hooks_noted }
     {
+        self.notes.note_hooks();
         if matches!(resolver, Change::Bound(_)) {
             self.notes.note_resolver();
         }

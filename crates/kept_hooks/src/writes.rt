@@ -40,9 +40,14 @@ impl Writes {
         self.is_noted.store(false, SeqCst);
     }
 
+    /// Whether a read may write, since a resolver may be bound.
+    pub fn may_resolve(&self) -> bool {
+        self.may_resolve.load(SeqCst)
+    }
+
     /// Notes that a read is done, which may have written what a resolver chose.
     pub(crate) fn note_read(&self) {
-        if self.may_resolve.load(SeqCst) {
+        if self.may_resolve() {
             self.note();
         }
     }

@@ -2,6 +2,7 @@
 
 ghost use Rattle.std.specs.Prelude.{◌≡◌, ◌↔◌, IsTrue};
 ghost use mathlib.Core.List.{IsPrefix};
+ghost use Rattle.log_writer.specs.Sheets.{IsAmong};
 
 use crate::sheet::Sheet;
 use shared_prefix::{Front, Naming};
@@ -30,67 +31,96 @@ impl<J: Naming> Receipt<J> {
     {
         Receipt { list }
     }
+
+    /// Whether its sheet is in a list, and all that were handed over before it.
+    pub fn is_in(&self, list: &Front<Sheet, J>) -> bool
+        ensures { IsTrue result ↔ IsPrefix self.now list.now }
+    {
+        has_all(list, &self.list)
+    }
 }
 
-/// Sheets that were written: they outlive a process that is killed. [`LogWriter::write`](crate::LogWriter::write) alone makes one.
+/// Sheets that were written: they outlive a process that is killed. [`LogWriter::write`](crate::LogWriter::write) alone makes one. Contracts
+/// see the list of those that its logs skip, and the list up to the last.
 #[derive(Drop)]
 pub struct Written<J: Naming> {
+    skipped: Front<Sheet, J>,
     list: Front<Sheet, J>,
 }
 
 impl<J: Naming> Model for Written<J> {
-    ghost use Rattle.std.specs.Prelude.{List};
-    ghost use Rattle.log_writer.specs.declared.sheet.Sheet.{Sheet};
+    ghost use Rattle.log_writer.specs.Sheets.{Span};
 
-    ghost Value = { List Sheet };
+    ghost Value = { Span };
 
-    ghost view = { λ w. w.list };
+    ghost view = { λ w. record { before = w.skipped; upto = w.list } };
 }
 
 impl<J: Naming> Written<J> {
-    // That these were.
-    pub(crate) fn new(list: Front<Sheet, J>) -> Written<J>
-        ensures { result ≡ list }
+    // That these were, but for some.
+    pub(crate) fn new(skipped: Front<Sheet, J>, list: Front<Sheet, J>) -> Written<J>
+        ensures { result ≡ record { before = skipped; upto = list } }
     {
-        Written { list }
+        Written { skipped, list }
     }
 
-    /// Whether the sheet of a receipt is among them, and all that were handed over before it.
-    pub fn has(&self, receipt: &Receipt<J>) -> bool
-        ensures { IsTrue result ↔ IsPrefix receipt.now self.now }
+    /// The same once more.
+    pub fn again(&self) -> Written<J>
+        ensures { result ≡ self.now }
     {
-        has_all(&self.list, &receipt.list)
+        Written {
+            skipped: self.skipped.again(),
+            list: self.list.again(),
+        }
+    }
+
+    /// Whether the sheet of a receipt is among them. So are all that were handed over before it, but for those that are skipped.
+    pub fn has(&self, receipt: &Receipt<J>) -> bool
+        ensures { IsTrue result ↔ IsAmong receipt.now self.now }
+    {
+        !receipt.is_in(&self.skipped) && receipt.is_in(&self.list)
     }
 }
 
-/// Sheets that were forced: they outlive every crash. [`LogWriter::force`](crate::LogWriter::force) alone makes one.
+/// Sheets that were forced: they outlive every crash. [`LogWriter::force`](crate::LogWriter::force) alone makes one. Contracts
+/// see the list of those that its logs skip, and the list up to the last.
 #[derive(Drop)]
 pub struct Forced<J: Naming> {
+    skipped: Front<Sheet, J>,
     list: Front<Sheet, J>,
 }
 
 impl<J: Naming> Model for Forced<J> {
-    ghost use Rattle.std.specs.Prelude.{List};
-    ghost use Rattle.log_writer.specs.declared.sheet.Sheet.{Sheet};
+    ghost use Rattle.log_writer.specs.Sheets.{Span};
 
-    ghost Value = { List Sheet };
+    ghost Value = { Span };
 
-    ghost view = { λ f. f.list };
+    ghost view = { λ f. record { before = f.skipped; upto = f.list } };
 }
 
 impl<J: Naming> Forced<J> {
-    // That these were.
-    pub(crate) fn new(list: Front<Sheet, J>) -> Forced<J>
-        ensures { result ≡ list }
+    // That these were, but for some.
+    pub(crate) fn new(skipped: Front<Sheet, J>, list: Front<Sheet, J>) -> Forced<J>
+        ensures { result ≡ record { before = skipped; upto = list } }
     {
-        Forced { list }
+        Forced { skipped, list }
     }
 
-    /// Whether the sheet of a receipt is among them, and all that were handed over before it.
-    pub fn has(&self, receipt: &Receipt<J>) -> bool
-        ensures { IsTrue result ↔ IsPrefix receipt.now self.now }
+    /// The same once more.
+    pub fn again(&self) -> Forced<J>
+        ensures { result ≡ self.now }
     {
-        has_all(&self.list, &receipt.list)
+        Forced {
+            skipped: self.skipped.again(),
+            list: self.list.again(),
+        }
+    }
+
+    /// Whether the sheet of a receipt is among them. So are all that were handed over before it, but for those that are skipped.
+    pub fn has(&self, receipt: &Receipt<J>) -> bool
+        ensures { IsTrue result ↔ IsAmong receipt.now self.now }
+    {
+        !receipt.is_in(&self.skipped) && receipt.is_in(&self.list)
     }
 }
 

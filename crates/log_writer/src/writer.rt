@@ -25,11 +25,12 @@ pub enum WriteFault {
     OutOfTurn,
 }
 
-/// A log's file with the lists of the sheets that it has. Contracts see its device, the list of the sheets that earlier logs have, and with
-/// these the lists of those that were written, and of those that were forced.
+/// A log's file with the lists of the sheets that it has. Contracts see its device, the list of the sheets that no log of this writer has,
+/// with these those of its earlier logs, and with these the lists of those that were written, and of those that were forced.
 #[derive(Drop)]
 pub struct LogWriter<D: Device, J: Naming> {
     log: LogFile<D>,
+    skipped: Front<Sheet, J>,
     earlier: Front<Sheet, J>,
     written: Front<Sheet, J>,
     forced: Front<Sheet, J>,
@@ -42,7 +43,7 @@ impl<D: Device, J: Naming> Model for LogWriter<D, J> {
 
     ghost Value = { Logged D };
 
-    ghost view = { λ w. record { device = file.device_of w.log; earlier = w.earlier; written = w.written; forced = w.forced; is_trusted = file.is_trusted w.log } };
+    ghost view = { λ w. record { device = file.device_of w.log; skipped = w.skipped; earlier = w.earlier; written = w.written; forced = w.forced; is_trusted = file.is_trusted w.log } };
 
     ghost invariant = { λ w. (bytes_of w.written ≡ bytes_of w.earlier ++ file.appended w.log) × (bytes_of w.forced ≡ bytes_of w.earlier ++ file.forced w.log) };
 }
@@ -50,17 +51,18 @@ impl<D: Device, J: Naming> Model for LogWriter<D, J> {
 impl<D: Device, J: Naming> LogWriter<D, J> {
     ghost use Rattle.log_file.specs.LogFiles as file;
 
-    /// The writer of a new log, behind the sheets that earlier logs have.
-    pub fn new(log: LogFile<D>, earlier: &Front<Sheet, J>) -> LogWriter<D, J>
+    /// The writer of a new log, behind sheets that it skips: none of its logs has them, and it never says that they were written.
+    pub fn new(log: LogFile<D>, skipped: &Front<Sheet, J>) -> LogWriter<D, J>
         requires appended { file.appended log ≡ [] }
         requires forced { file.forced log ≡ [] }
-        ensures { result ≡ record { device = file.device_of log; earlier = earlier.now; written = earlier.now; forced = earlier.now; is_trusted = file.is_trusted log } }
+        ensures { result ≡ record { device = file.device_of log; skipped = skipped.now; earlier = skipped.now; written = skipped.now; forced = skipped.now; is_trusted = file.is_trusted log } }
     {
         LogWriter {
             log,
-            earlier: earlier.again(),
-            written: earlier.again(),
-            forced: earlier.again(),
+            skipped: skipped.again(),
+            earlier: skipped.again(),
+            written: skipped.again(),
+            forced: skipped.again(),
         }
     }
 
@@ -70,8 +72,9 @@ impl<D: Device, J: Naming> LogWriter<D, J> {
     /// stays.
     pub fn write(&mut self, batch: &Batch<J>) -> Result<Written<J>, WriteFault>
         ensures in_turn { IfOk result (λ _. batch.now.before ≡ self.old.written) }
-        ensures told { IfOk result (λ written. (written ≡ batch.now.upto) × (self.new.written ≡ written)) }
+        ensures told { IfOk result (λ written. (written ≡ record { before = self.old.skipped; upto = batch.now.upto }) × (self.new.written ≡ batch.now.upto)) }
         ensures refused { OnErr result (self.new.written ≡ self.old.written) }
+        ensures skipped { self.new.skipped ≡ self.old.skipped }
         ensures earlier { self.new.earlier ≡ self.old.earlier }
         ensures forced { self.new.forced ≡ self.old.forced }
         ensures trusted { self.new.is_trusted ≡ self.old.is_trusted }
@@ -84,7 +87,7 @@ impl<D: Device, J: Naming> LogWriter<D, J> {
         match self.log.append(batch.bytes()) {
             Ok(()) => {
                 self.written = batch.upto().again();
-                Ok(Written::new(batch.upto().again()))
+                Ok(Written::new(self.skipped.again(), batch.upto().again()))
             }
             Err(fault) => Err(WriteFault::File(fault)),
         }
@@ -102,18 +105,19 @@ impl<D: Device, J: Naming> LogWriter<D, J> {
     ///
     /// An error is the file's. Once it was refused it is refused for good: the next log has to begin.
     pub fn force(&mut self) -> Result<Forced<J>, DeviceFault>
-        ensures told { IfOk result (λ forced. (forced ≡ self.old.written) × (self.new.forced ≡ forced)) }
+        ensures told { IfOk result (λ forced. (forced ≡ record { before = self.old.skipped; upto = self.old.written }) × (self.new.forced ≡ self.old.written)) }
         ensures refused { OnErr result (self.new.forced ≡ self.old.forced) }
         ensures broken { OnErr result (self.new.is_trusted ≡ false) }
         ensures trusted { OnOk result (self.new.is_trusted ≡ self.old.is_trusted) }
         ensures for_good { self.old.is_trusted ≡ false → IsErr result }
+        ensures skipped { self.new.skipped ≡ self.old.skipped }
         ensures earlier { self.new.earlier ≡ self.old.earlier }
         ensures written { self.new.written ≡ self.old.written }
         ensures cause { IsErr result → HasRisen (D.faults self.old.device) (D.faults self.new.device) ⊎ (self.old.is_trusted ≡ false) }
     {
         self.log.force()?;
         self.forced = self.written.again();
-        Ok(Forced::new(self.written.again()))
+        Ok(Forced::new(self.skipped.again(), self.written.again()))
     }
 
     /// Begins the next log behind this one, all of whose sheets are forced first. Hands this one's file out.
@@ -122,10 +126,10 @@ impl<D: Device, J: Naming> LogWriter<D, J> {
     pub fn begin(&mut self, next: LogFile<D>) -> Result<LogFile<D>, (DeviceFault, LogFile<D>)>
         requires appended { file.appended next ≡ [] }
         requires forced { file.forced next ≡ [] }
-        ensures begun { OnOk result (self.new ≡ record { device = file.device_of next; earlier = self.old.written; written = self.old.written; forced = self.old.written; is_trusted = file.is_trusted next }) }
+        ensures begun { OnOk result (self.new ≡ record { device = file.device_of next; skipped = self.old.skipped; earlier = self.old.written; written = self.old.written; forced = self.old.written; is_trusted = file.is_trusted next }) }
         ensures handed { IfOk result (λ log. bytes_of self.old.written ≡ bytes_of self.old.earlier ++ file.forced log) }
         ensures back { IfErr result (λ e. e.1 ≡ next) }
-        ensures refused { OnErr result ((self.new.earlier ≡ self.old.earlier) × (self.new.written ≡ self.old.written) × (self.new.forced ≡ self.old.forced)) }
+        ensures refused { OnErr result ((self.new.skipped ≡ self.old.skipped) × (self.new.earlier ≡ self.old.earlier) × (self.new.written ≡ self.old.written) × (self.new.forced ≡ self.old.forced)) }
     {
         if let Err(fault) = self.log.force() {
             return Err((fault, next));

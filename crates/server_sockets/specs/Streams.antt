@@ -22,6 +22,11 @@ IsToldAs (Ok taken) told.NotNow = ⊥
 IsToldAs (Err error) (told.Bytes n) = ⊥
 IsToldAs (Err error) told.NotNow = Unit {0}
 
+-- so many bytes went out by a write
+abbrev pub gone : Told → ℕ
+gone (told.Bytes n) = n
+gone told.NotNow = 0
+
 -- of a stream: which bytes are known of it, and what it is like once it is to be reported again
 module _ {S : Type 0} (known : S → Option (List ℕ)) (keeps : S → S → Type 0) where
   -- its bytes stay: it was left alone, or a call of it moved none; and it may be reported again since

@@ -1,5 +1,6 @@
 //! Where connections are handed over to a worker.
 
+use crate::unlogged::Unlogged;
 use mio::Waker;
 use mio::net::TcpStream;
 use std::alloc::Global;
@@ -15,16 +16,19 @@ pub struct Inlet {
     waker: Waker,
     has_begun: AtomicBool,
     is_over: AtomicBool,
+    /// Whether the worker did something that the log doesn't have yet.
+    pub unlogged: Unlogged,
 }
 
 impl Inlet {
     /// The inlet of a worker that has not begun, and is woken so.
-    pub(crate) fn new(alloc: Global, waker: Waker) -> Inlet {
+    pub(crate) fn new(alloc: Global, waker: Waker, unlogged: Unlogged) -> Inlet {
         Inlet {
             offered: Mutex::new(VecDeque::new(alloc)),
             waker,
             has_begun: AtomicBool::new(false),
             is_over: AtomicBool::new(false),
+            unlogged,
         }
     }
 

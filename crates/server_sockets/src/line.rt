@@ -1,8 +1,8 @@
 //! One connection's socket.
 
-ghost use Rattle.std.specs.Prelude.{◌≡◌, ◌<◌, length, IfOk};
+ghost use Rattle.std.specs.Prelude.{◌≡◌, ◌<◌, ◌≤◌, ◌-◌, ◌&&◌, length, min, nat_lt, not, false, IfOk, if◌then◌else◌};
 ghost use Rattle.http_connections.specs.Spoken.{FitsHeard, FitsTold};
-ghost use Rattle.server_sockets.specs.Streams.{GivesBytes, TakesBytes};
+ghost use Rattle.server_sockets.specs.Streams.{GivesBytes, TakesBytes, gone};
 
 use crate::limits::{BUSY_BYTES, DROPPED_BYTES, DROPPING_READS};
 use crate::outcome::{Unmade, heard_by, told_by};
@@ -65,6 +65,12 @@ pub(crate) struct Line<S> {
     moved: usize,
     /// Whether that was much, when it was noted last.
     pub(crate) moves_much: bool,
+    /// So many bytes of the answers that wait to be written tell of nothing that isn't in the log.
+    may_go: usize,
+    /// So many bytes waited to be written when it was last not written to for the log's sake; 0 where it wasn't since its last credit.
+    waits: usize,
+    /// Whether it stands among those whose answers wait for the log.
+    pub(crate) is_untold: bool,
 }
 
 impl Line<TcpStream> {
@@ -81,6 +87,9 @@ impl Line<TcpStream> {
             is_called: false,
             moved: 0,
             moves_much: false,
+            may_go: 0,
+            waits: 0,
+            is_untold: false,
         }
     }
 
@@ -104,7 +113,8 @@ impl<S: Read + Write + Source> Line<S> {
 
     /// Has it reported once more, if it is ready.
     pub(crate) fn register_again(&mut self, registry: &Registry, number: u64) -> Result<(), Failed>
-        ensures { S.keeps self.old.stream self.new.stream }
+        ensures kept { S.keeps self.old.stream self.new.stream }
+        ensures may_go { self.new.may_go ≡ self.old.may_go }
     {
         let both = Interest::READABLE | Interest::WRITABLE;
         let token = Token(number as usize);
@@ -162,16 +172,43 @@ impl<S: Read + Write + Source> Line<S> {
         }
     }
 
-    /// Writes some bytes. One that was interrupted is reported once more.
-    pub(crate) fn write(
+    /// Tells the client bytes of its answers, where the log has all that its worker did, or not. Where it doesn't no more are written than
+    /// are known to tell of nothing else, and it is noted how many wait where none are. One that was interrupted is reported once more.
+    pub(crate) fn tell(
         &mut self,
         registry: &Registry,
         number: u64,
         bytes: &[u8],
+        is_logged: bool,
     ) -> Result<Told, Failed>
         requires { 0 < length bytes.now }
         ensures fits { IfOk result (FitsTold (length bytes.now)) }
         ensures taken { IfOk result (TakesBytes S.contents S.keeps self.old.stream self.new.stream bytes.now) }
+        ensures logged { IfOk result (λ told. is_logged ≡ false → gone told ≤ self.old.may_go) }
+        ensures credit { IfOk result (λ told. self.new.may_go ≡ self.old.may_go - gone told) }
+        ensures waits { is_logged ≡ false → self.old.may_go ≡ 0 → self.new.waits ≡ length bytes.now }
+    {
+        let most = self.sendable(bytes.len(), is_logged);
+        if most == 0 {
+            self.waits = bytes.len();
+            return Ok(Told::NotNow);
+        }
+        self.write(registry, number, &bytes[..most])
+    }
+
+    // How many of so many bytes may be written, where the log has all that the worker did, or not.
+    fn sendable(&self, len: usize, is_logged: bool) -> usize
+        ensures { result ≡ (if is_logged then len else min len self.now.may_go) }
+    {
+        if is_logged { len } else { len.min(self.may_go) }
+    }
+
+    /// Writes some bytes. One that was interrupted is reported once more.
+    fn write(&mut self, registry: &Registry, number: u64, bytes: &[u8]) -> Result<Told, Failed>
+        requires { 0 < length bytes.now }
+        ensures fits { IfOk result (FitsTold (length bytes.now)) }
+        ensures taken { IfOk result (TakesBytes S.contents S.keeps self.old.stream self.new.stream bytes.now) }
+        ensures credit { IfOk result (λ told. self.new.may_go ≡ self.old.may_go - gone told) }
     {
         match told_by(self.stream.write(bytes)) {
             Ok(told) => {
@@ -188,12 +225,34 @@ impl<S: Read + Write + Source> Line<S> {
 
     // A write came to that.
     fn note_told(&mut self, told: Told)
-        ensures { self.new.stream ≡ self.old.stream }
+        ensures stream { self.new.stream ≡ self.old.stream }
+        ensures credit { self.new.may_go ≡ self.old.may_go - gone told }
     {
         if let Told::Bytes(n) = told {
             self.has_taken = true;
             self.moved = self.moved.saturating_add(n);
+            self.may_go = self.may_go.saturating_sub(n);
         }
+    }
+
+    /// Whether it waits for the log and stands not yet among those that do.
+    pub(crate) fn is_to_wait(&self) -> bool
+        ensures { result ≡ (not self.now.is_untold && nat_lt 0 self.now.waits) }
+    {
+        !self.is_untold && 0 < self.waits
+    }
+
+    /// The log has all that its worker did: what waited then may be written. For the time for which it waited its client is not to blame.
+    pub(crate) fn credit(&mut self, now: u64)
+        ensures may_go { self.new.may_go ≡ self.old.waits }
+        ensures waits { self.new.waits ≡ 0 }
+        ensures told { self.new.is_untold ≡ false }
+        ensures since { self.new.watch.since ≡ now }
+    {
+        self.may_go = self.waits;
+        self.waits = 0;
+        self.is_untold = false;
+        self.watch.since = now;
     }
 
     /// It stands so in the hall now, and is read from or not. For the time for which it wasn't its client is not to blame. Answers how many

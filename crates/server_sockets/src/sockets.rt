@@ -1,11 +1,13 @@
 //! The sockets of one worker.
 
-ghost use Rattle.std.specs.Prelude.{◌≡◌, ◌≢◌, ◌<◌, ◌≤◌, ◌+◌, ◌-◌, ◌^◌, ◌↔◌, ℕ, max, min, false, IsTrue, IfOk, OnErr};
+ghost use Rattle.std.specs.Prelude.{◌≡◌, ◌≢◌, ◌<◌, ◌≤◌, ◌+◌, ◌-◌, ◌^◌, ◌↔◌, ◌||◌, ℕ, length, max, min, false, IsTrue, IfOk, OnErr};
+ghost use Rattle.http_connections.specs.Spoken.{FitsTold};
 ghost use Rattle.server_sockets.specs.Limits.{is_too_slow};
 
 use crate::limits::{DROPPED_PIECE_BYTES, LINGER_MS};
 use crate::line::{Course, Drained, Line};
 use crate::looks::Looks;
+use crate::unlogged::Unlogged;
 use http_connection::{Failed, FrontFault};
 use http_connections::{Closing, Heard, Ring, Standing, Told};
 use mio::net::TcpStream;
@@ -42,6 +44,10 @@ pub(crate) struct Sockets {
     reading: Reading,
     /// The connections that were not read from, since nothing is read now.
     held: Vec<u64>,
+    /// Whether the worker did something that the log doesn't have yet.
+    unlogged: Unlogged,
+    /// The connections whose answers wait for the log.
+    untold: Vec<u64>,
     /// The connections that are attended once more, in turn, behind those that are reported.
     called: VecDeque<u64>,
     /// The connections whose last bytes are dropped, each with the time at which that ends.
@@ -55,7 +61,7 @@ pub(crate) struct Sockets {
 }
 
 impl Sockets {
-    pub(crate) fn new(alloc: Global, poll: Poll) -> Result<Sockets, AllocError>
+    pub(crate) fn new(alloc: Global, poll: Poll, unlogged: Unlogged) -> Result<Sockets, AllocError>
         ensures { IfOk result (λ sockets. sockets.next ≡ 0) }
     {
         Ok(Sockets {
@@ -67,6 +73,8 @@ impl Sockets {
             coming: None,
             reading: Reading::Allowed,
             held: Vec::new(alloc),
+            unlogged,
+            untold: Vec::new(alloc),
             called: VecDeque::new(alloc),
             draining: VecDeque::new(alloc),
             room: vec![in alloc; 0; DROPPED_PIECE_BYTES]?,
@@ -131,10 +139,12 @@ impl Sockets {
         Ok(false)
     }
 
-    // How long is waited, if it is at most so long: not at all where connections are called again, or were held and are not any more.
+    // How long is waited, if it is at most so long: not at all where connections are called again, or where some were held, or waited for the
+    // log, and don't any more.
     fn longest_wait(&self, most: Duration) -> Duration {
         let is_freed = self.reading != Reading::Held && !self.held.is_empty();
-        if is_freed || !self.called.is_empty() {
+        let is_logged = !self.untold.is_empty() && !self.unlogged.is_noted();
+        if is_freed || is_logged || !self.called.is_empty() {
             Duration::ZERO
         } else if self.draining.is_empty() {
             most
@@ -173,6 +183,76 @@ impl Sockets {
             return Vec::new(self.alloc);
         }
         mem::replace(&mut self.held, Vec::new(self.alloc))
+    }
+
+    /// Whether answers wait for the log.
+    pub(crate) fn has_untold(&self) -> bool {
+        !self.untold.is_empty()
+    }
+
+    /// The connections whose answers waited for the log, which has all that the worker did: what waits of them may be written now.
+    pub(crate) fn take_untold(&mut self) -> Vec<u64>
+        ensures next { self.new.next ≡ self.old.next }
+    {
+        let untold = mem::replace(&mut self.untold, Vec::new(self.alloc));
+        for number in &untold {
+            self.credit(*number);
+        }
+        untold
+    }
+
+    // What waits of a connection may be written.
+    fn credit(&mut self, number: u64)
+        ensures next { self.new.next ≡ self.old.next }
+    {
+        let now = self.now;
+        if let Some(line) = self.lines.get_mut(&number) {
+            line.credit(now);
+        }
+    }
+
+    // A connection that was not written to waits for the log, if that is why.
+    fn await_log(&mut self, number: u64) -> Result<(), Failed>
+        ensures next { self.new.next ≡ self.old.next }
+    {
+        let Some(line) = self.lines.get_mut(&number) else {
+            return Err(Failed);
+        };
+        if !line.is_to_wait() {
+            return Ok(());
+        }
+        if self.untold.push(number).is_err() {
+            self.lacks = self.lacks.saturating_add(1);
+            return Err(Failed);
+        }
+        line.is_untold = true;
+        Ok(())
+    }
+
+    // Tells a connection bytes of its answers, or has it wait for the log.
+    fn send(&mut self, number: u64, bytes: &[u8]) -> Result<Told, Failed>
+        requires { 0 < length bytes.now }
+        ensures next { self.new.next ≡ self.old.next }
+        ensures fits { IfOk result (FitsTold (length bytes.now)) }
+    {
+        let told = self.tell(number, bytes)?;
+        if told == Told::NotNow {
+            self.await_log(number)?;
+        }
+        Ok(told)
+    }
+
+    // Tells a connection bytes of its answers, all of them or those that tell of nothing that the log lacks.
+    fn tell(&mut self, number: u64, bytes: &[u8]) -> Result<Told, Failed>
+        requires { 0 < length bytes.now }
+        ensures next { self.new.next ≡ self.old.next }
+        ensures fits { IfOk result (FitsTold (length bytes.now)) }
+    {
+        let is_logged = !self.unlogged.is_noted();
+        match self.lines.get_mut(&number) {
+            Some(line) => line.tell(self.poll.registry(), number, bytes, is_logged),
+            None => Err(Failed),
+        }
     }
 
     /// The connection that is called again and whose turn it is.
@@ -344,9 +424,10 @@ impl Sockets {
 // Whether the client of a connection has kept it waiting for too long.
 fn is_overdue(line: &Line<TcpStream>, stopped: Option<u64>, now: u64) -> bool
     ensures drains { line.now.course ≢ Course.Served → result ≡ false }
-    ensures served { line.now.course ≡ Course.Served → result ≡ is_too_slow line.now.watch line.now.is_held stopped now }
+    ensures served { line.now.course ≡ Course.Served → result ≡ is_too_slow line.now.watch (line.now.is_held || line.now.is_untold) stopped now }
 {
-    line.course == Course::Served && line.watch.is_given_up(line.is_held, stopped, now)
+    let is_held = line.is_held || line.is_untold;
+    line.course == Course::Served && line.watch.is_given_up(is_held, stopped, now)
 }
 
 // Whether a connection is between two requests.
@@ -390,10 +471,7 @@ impl Ring for Sockets {
 
     fn write(&mut self, number: u64, bytes: &[u8]) -> Result<Told, Failed> {
         self.skip(number);
-        match self.lines.get_mut(&number) {
-            Some(line) => line.write(self.poll.registry(), number, bytes),
-            None => Err(Failed),
-        }
+        self.send(number, bytes)
     }
 
     fn call_again(&mut self, number: u64) -> Result<(), Failed> {

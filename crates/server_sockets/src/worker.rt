@@ -12,6 +12,7 @@ use crate::limits::{
 };
 use crate::orders::{Orders, Stance, Turned};
 use crate::sockets::{Reading, Sockets};
+use crate::unlogged::Unlogged;
 use crate::watch::{full_since, is_full_for_long, while_full};
 use http_connection::Backend;
 use http_connections::Hall;
@@ -56,10 +57,11 @@ pub fn open<R: Net<Listener = TcpListener, Stream = TcpStream>>(
     let waker = Waker::new(poll.registry(), WAKER)?;
     let mut reported = Vec::new(alloc);
     reported.reserve(REPORTED_PER_TURN)?;
+    let (unlogged, again) = Unlogged::pair(alloc)?;
     let worker = Worker {
         alloc,
         hall: Hall::new(alloc)?,
-        sockets: Sockets::new(alloc, poll)?,
+        sockets: Sockets::new(alloc, poll, unlogged)?,
         events: Events::with_capacity(alloc, REPORTED_PER_TURN)?,
         reported,
         swept: 0,
@@ -67,7 +69,7 @@ pub fn open<R: Net<Listener = TcpListener, Stream = TcpStream>>(
         filled: None,
         rest: Parker::new(),
     };
-    Ok((worker, Inlet::new(alloc, waker)))
+    Ok((worker, Inlet::new(alloc, waker, again)))
 }
 
 impl Worker {
@@ -99,6 +101,15 @@ impl Worker {
             open: self.sockets.len(),
             lacks: self.sockets.take_lacks(),
         }
+    }
+
+    /// The log has all that the worker did: writes the answers that waited for it. What these connections ask further is answered, and where
+    /// something of it is noted these answers wait again.
+    pub fn release<B: Backend>(&mut self, backend: &mut B)
+        ensures { Works B.gives B.copies self.old self.new backend.old backend.new }
+    {
+        let untold = self.sockets.take_untold();
+        self.attend_all(&untold, backend);
     }
 
     /// Closes the connection that has been idle longest, and tells whether there was one.
@@ -249,7 +260,9 @@ impl Worker {
     fn relieve(&mut self, now: u64)
         ensures { Stays self.old self.new }
     {
-        self.filled = full_since(self.filled, self.hall.is_full(), now);
+        // Answers that wait for the log are nobody's fault.
+        let is_full = self.hall.is_full() && !self.sockets.has_untold();
+        self.filled = full_since(self.filled, is_full, now);
         if is_full_for_long(self.filled, now) {
             self.filled = None;
             self.hall.relieve(&mut self.sockets);

@@ -1,11 +1,13 @@
 //! A crew at work, from its beginning to what is left of it.
 
-ghost use Rattle.std.specs.Prelude.{◌≡◌, ◌+◌, ◌++◌, ◌≤◌, [], IfOk, map, vec_len};
+ghost use Rattle.std.specs.Prelude.{◌≡◌, ◌+◌, ◌*◌, ◌++◌, ◌≤◌, [], All, IfOk, map, vec_len};
 ghost use Rattle.audit_cluster.specs.Following.{AreNumbered, IsFollowedTo, IsSaidOf};
 ghost use Rattle.dvvstore.specs.Asides.{AllRead, AreBrought, AreGathered, WithAsides};
+ghost use Rattle.dvvstore.specs.Reads.{IsRead};
 ghost use Rattle.dvvstore.specs.Visits.{AfterAnswers, AfterAnswersOf, HaveVisited, begun};
 
 use crate::crew::abreast::join_three;
+use crate::crew::aside::Passes;
 use crate::crew::signs::Signs;
 use crate::crew::working::{Floor, Lookout, Seat, Shared, attend, work_all};
 use crate::host::Host;
@@ -15,6 +17,7 @@ use cluster::{Cluster, Pass, Room};
 use hook_registry::{HookChanges, Hooks};
 use kept_folder::Folder;
 use kept_hooks::Requests;
+use log_desk::Pages;
 use server_accept::Lobby;
 use server_receipts::laws::{answers_are_by_receipts, answers_are_of_the_run};
 use std::alloc::{AllocError, Global};
@@ -37,7 +40,7 @@ pub struct Crew<B: Room + Spot, H, F> {
 /// What is left of a crew: the passes of its workers, those of snapshots, and what they shared.
 #[derive(Drop)]
 struct Back<B: Room + Spot> {
-    passes: Vec<Pass<B>>,
+    passes: Vec<Passes<B>>,
     spares: Vec<Pass<B>>,
     watch: Watch<B>,
     requests: Requests,
@@ -54,17 +57,19 @@ fn run<
     H: Hooks + HookChanges + Send + Drop,
     F: Folder + Copy + Send + Sync,
     R: Threads + Wait + Sync,
+    L: Pages + Sync,
 >(
     host: &Host<'_, R>,
     cluster: &Cluster<B>,
     crew: Crew<B, H, F>,
     lobby: &Lobby,
+    ledger: &L,
 ) -> Result<Back<B>, AllocError>
     requires first { cluster.now.first ≡ B.first }
     requires few { vec_len crew.spares ≤ 16 }
     ensures count { IfOk result (λ left. vec_len left.spares ≡ vec_len crew.spares) }
     ensures passes { IfOk result (λ left. vec_len left.passes ≡ vec_len crew.seats) }
-    ensures visited { IfOk result (λ left. HaveVisited H.finds H.names H.takes (map (λ s. begun cluster.now s.pass s.hooking.hooks s.hooking.table.listed s.placement) crew.seats.items) left.passes.items) }
+    ensures visited { IfOk result (λ left. HaveVisited H.finds H.names H.takes (map (λ s. begun cluster.now s.pass s.hooking.hooks s.hooking.table.listed s.placement) crew.seats.items) (map (λ p. p.pass) left.passes.items)) }
     ensures spares { IfOk result (λ left. AllRead cluster.now.first crew.spares.items left.spares.items) }
 {
     let Crew {
@@ -74,20 +79,20 @@ fn run<
         saver,
     } = crew;
     let (alloc, rt) = (host.alloc, host.rt);
-    let shared = Shared::new(lookout);
+    let shared = Shared::new(lookout, ledger);
     let (lent, both) = (cluster, &shared);
     let (spares, _, back) = join_three(
         rt,
         || -> Vec<Pass<B>>
             requires { vec_len spares ≤ 16 }
             ensures { AllRead lent.entry.now.first spares.items result.items × (vec_len result ≡ vec_len spares) }
-        { save_beside(rt, lent, &both.signs(lobby), saver, spares) },
+        { save_beside(rt, lent, &both.signs(lobby), saver, spares, both.ledger) },
         ||
             requires { lent.now.first ≡ B.first }
         { attend(rt, &Floor::new(alloc, lent, lobby, both)) },
-        || -> Result<Vec<Pass<B>>, AllocError>
+        || -> Result<Vec<Passes<B>>, AllocError>
             requires { lent.now.first ≡ B.first }
-            ensures { IfOk result (λ passes. (vec_len passes ≡ vec_len seats) × HaveVisited H.finds H.names H.takes (map (λ s. begun lent.entry.now s.pass s.hooking.hooks s.hooking.table.listed s.placement) seats.items) passes.items) }
+            ensures { IfOk result (λ passes. (vec_len passes ≡ vec_len seats) × HaveVisited H.finds H.names H.takes (map (λ s. begun lent.entry.now s.pass s.hooking.hooks s.hooking.table.listed s.placement) seats.items) (map (λ p. p.pass) passes.items)) }
         { work_all(&Host { alloc, rt }, lent, seats, lobby, both) },
     );
     let Shared {
@@ -105,19 +110,25 @@ fn run<
 
 /// Makes snapshots by spare passes until all workers have ended, if somebody makes them. The passes come back.
 #[tactic(auto, using(crate::proofs::Growing::all_read_same))]
-fn save_beside<B: Room + Send + Sync, F: Folder + Copy + Send + Sync, R: Threads + Wait + Sync>(
+fn save_beside<
+    B: Room + Send + Sync,
+    F: Folder + Copy + Send + Sync,
+    R: Threads + Wait + Sync,
+    L: Pages,
+>(
     rt: &R,
     cluster: &Cluster<B>,
     signs: &Signs<'_>,
     saver: Option<Saver<F>>,
     spares: Vec<Pass<B>>,
+    ledger: &L,
 ) -> Vec<Pass<B>>
     requires few { vec_len spares ≤ 16 }
     ensures read { AllRead cluster.now.first spares.items result.items }
     ensures count { vec_len result ≡ vec_len spares }
 {
     match saver {
-        Some(mut saver) => saver.run(rt, cluster, spares, signs),
+        Some(mut saver) => saver.run(rt, cluster, spares, signs, ledger),
         None => spares,
     }
 }
@@ -134,11 +145,11 @@ pub struct Served {
 /// Has a crew serve a store that has begun with something, so many entries of each vnode, by index, while snapshots are made beside it by
 /// the passes that brought these. Where no fronts are named nothing was there before. Once all workers have ended, the cluster is gathered,
 /// and what is left of the journals is followed; the vnodes are handed back, whatever is said of them. In their journals stands what the
-/// workers were told, what these passes had been told before and then of reads, and what the watch was told, which has vnodes hand out and
-/// start again and does nothing else. Each answer of a worker tells of these journals, by the receipts of its own calls: a read's is
-/// current among what they had brought before, and a write's dot is that of its entry, which as many vnodes as were asked for know. Where
-/// the journals are one run from their first entries on, or from fronts on that these passes had brought, these calls are steps of it, one
-/// behind the other.
+/// workers were told, what these passes had been told before and then of reads, what workers only read, so that the ledger has it, and what
+/// the watch was told, which has vnodes hand out and start again and does nothing else. Each answer of a worker tells of these journals, by
+/// the receipts of its own calls: a read's is current among what they had brought before, and a write's dot is that of its entry, which as
+/// many vnodes as were asked for know. Where the journals are one run from their first entries on, or from fronts on that these
+/// passes had brought, these calls are steps of it, one behind the other.
 ///
 /// The error: memory was refused before the vnodes were gathered, and they are lost; some workers may have answered no connection then.
 pub fn serve<
@@ -146,15 +157,17 @@ pub fn serve<
     H: Hooks + HookChanges + Send + Drop,
     F: Folder + Copy + Send + Sync,
     R: Threads + Wait + Sync,
+    L: Pages + Sync,
 >(
     host: &Host<'_, R>,
     cluster: Cluster<B>,
     crew: Crew<B, H, F>,
     lobby: &Lobby,
     fronts: &[usize],
+    ledger: &L,
 ) -> Result<Served, AllocError>
     requires first { cluster.first ≡ B.first }
-    requires all { cluster.passes ≤ vec_len crew.seats + vec_len crew.spares + 1 }
+    requires all { cluster.passes ≤ 2 * vec_len crew.seats + vec_len crew.spares + 1 }
     requires few { vec_len crew.spares ≤ 16 }
     // Each answer of a worker tells of the journals that are left, by the receipts of its own calls; and of the run that they are from
     // fronts on whose entries these passes had been told of.
@@ -170,22 +183,32 @@ pub fn serve<
         spares,
         watch,
         requests,
-    } = run(host, &cluster, crew, lobby)?;
+    } = run(host, &cluster, crew, lobby, ledger)?;
     answers_are_by_receipts::<H>();
     answers_are_of_the_run::<H>();
-    let passes = all_passes(passes, spares)?;
+    let passes = all_passes(host.alloc, passes, spares)?;
     let closed = close_watched(host.alloc, cluster, passes, watch, fronts)?;
     Ok(Served { closed, requests })
 }
 
-/// The passes of workers, and behind them spare ones.
+/// All passes: those by which workers called the vnodes, the spare ones, and those by which workers only read.
 fn all_passes<B: Room>(
-    mut passes: Vec<Pass<B>>,
+    alloc: Global,
+    passes: Vec<Passes<B>>,
     mut spares: Vec<Pass<B>>,
 ) -> Result<Vec<Pass<B>>, AllocError>
-    ensures all { IfOk result (λ all. all.items ≡ passes.items ++ spares.items) }
-    ensures count { IfOk result (λ all. vec_len all ≡ vec_len passes + vec_len spares) }
+    ensures all { IfOk result (λ all. all.items ≡ map (λ p. p.pass) passes.items ++ (spares.items ++ map (λ p. p.aside) passes.items)) }
+    ensures read { IfOk result (λ all. All (λ p. All IsRead p.told) (map (λ p. p.aside) passes.items)) }
+    ensures count { IfOk result (λ all. vec_len all ≡ 2 * vec_len passes + vec_len spares) }
 {
-    passes.append(&mut spares)?;
-    Ok(passes)
+    let mut all = Vec::new(alloc);
+    let mut asides = Vec::new(alloc);
+    for worker in passes {
+        let Passes { pass, aside } = worker;
+        all.push(pass)?;
+        asides.push(aside.into_pass())?;
+    }
+    all.append(&mut spares)?;
+    all.append(&mut asides)?;
+    Ok(all)
 }

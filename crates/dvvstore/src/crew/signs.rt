@@ -3,6 +3,7 @@
 ghost use Rattle.std.specs.Prelude.{◌≡◌, ◌&&◌, IfOk, IfSome, not};
 ghost use Rattle.dvvstore.specs.Asides.{IsWholeList};
 
+use crate::crew::scribe::Filing;
 use kept_hooks::{Requests, Writes};
 use server_accept::Lobby;
 use server_sockets::Stance;
@@ -45,6 +46,8 @@ pub struct Signs<'a> {
     pub(crate) bell: &'a Parker,
     pub(crate) writes: &'a Writes,
     pub(crate) trailing: &'a AtomicBool,
+    /// Who has this alone writes the file of the requests that make hooks what they are.
+    pub(crate) filing: &'a Mutex<Filing>,
     /// How long that goes on which is done by these signs.
     pub(crate) until: Until,
 }

@@ -17,6 +17,7 @@ use bpf_helpers::Table;
 use commands::server::{Ended, Says as _, Unserved};
 use dvv::VNODES_PER_NUMBER;
 use kept_folder::{HOOKS, Held, Opened};
+use log_desk::NoLedger;
 use server_accept::{Bound, Lobby, Setup, open};
 use std::alloc::Global;
 use std::io::Stderr;
@@ -342,6 +343,7 @@ fn serve<R: Threads + Wait + Sync>(
         folder: Some(folder),
         held,
         door: Door::<'_, HostRuntime>::Open(&hall.lobby),
+        ledger: &NoLedger,
         err: hall.err,
     };
     session::live(&Host { alloc, rt }, making, tables, stay, &mut io::sink())

@@ -11,8 +11,9 @@ use crate::tests::two_tables;
 use audit_faults::{Followed, WatchFault};
 use dvv::{Clock, VNODES_PER_NUMBER};
 use kept_file::{KeptFile, Source};
-use kept_folder::{Held, Settings};
+use kept_folder::{Held, Settings, SyncPolicy};
 use key_state::{Content, Key, KeyState};
+use log_desk::NoLedger;
 use record_codec::Record;
 use std::alloc::Global;
 use std::io;
@@ -80,6 +81,7 @@ fn kept_store(rt: HostRuntime) -> Result<(), Fail> {
                 every: 0,
                 least: 0,
                 copies: 3,
+                sync: SyncPolicy::Always,
             },
             hooks: Vec::new(alloc),
             files,
@@ -91,6 +93,7 @@ fn kept_store(rt: HostRuntime) -> Result<(), Fail> {
             count: Some(0),
             input: rt.stdin(),
         }),
+        ledger: &NoLedger,
         err: rt.stderr(),
     };
     let making = Making {

@@ -1,4 +1,4 @@
-use Rattle.std.proofs.Common.{◌∙◌, ◌+◌, ℕ, List, Option, ap, map, refl, subst, vec_len}
+use Rattle.std.proofs.Common.{◌∙◌, ◌*◌, ◌+◌, ℕ, List, Option, ap, map, refl, subst, vec_len}
 use Rattle.hook_readers.specs.Edits.{Finds, Names}
 use Rattle.hook_sharing.specs.Taking.{Takes}
 use Rattle.dvvstore.specs.Keeping.{LeavesFolded, Tells, hooks_for}
@@ -14,7 +14,7 @@ returns-clause-told g c =
 pub returns-clause-kept : goal.returns-clause-kept
 returns-clause-kept g c =
     let Begins = λ (hooks : Option (List ℕ)).
-    BeginOver Takes (record { first = c.args.making.first; vnodes = c.args.making.spread.vnodes; passes = vec_len c.args.tables + c.args.making.spread.vnodes + 1 }) c.args.making.spread.copies (map (λ t. t.listed) c.args.tables.items) hooks in
+    BeginOver Takes (record { first = c.args.making.first; vnodes = c.args.making.spread.vnodes; passes = 2 * vec_len c.args.tables + c.args.making.spread.vnodes + 1 }) c.args.making.spread.copies (map (λ t. t.listed) c.args.tables.items) hooks in
     let now = c.in_ok-stay.stay in
     subst (λ (hooks : Option (List ℕ)). LeavesFolded Finds Names Takes c.args.stay.folder c.args.making.first c.args.making.spread.vnodes c.args.stay.held.files.items (Begins hooks) c.over_files.result)
     (ap (λ f. hooks_for f now.held.hooks.items) c.in_ok-stay.ensures.folder ∙ ap (λ v. hooks_for c.args.stay.folder v.items) c.in_ok-stay.ensures.hooks)

@@ -1,4 +1,3 @@
-use Rattle.std.proofs.Common.{refl}
 use Rattle.kept_folder.proofs.Reading.{few_behind, read_behind}
 use Rattle.kept_folder.proofs.opening.files_in.Goals as goal
 

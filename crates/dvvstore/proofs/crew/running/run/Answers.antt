@@ -15,7 +15,7 @@ use Rattle.dvvstore.proofs.crew.running.run.Goals as goal
 pub join_three-spares-requires-send-F : goal.join_three-spares-requires-send-F
 join_three-spares-requires-send-F g c κs within =
     let cluster = cluster_sync (param 0 g.row.B) g.B.Room c.type_bounds.send-B c.type_bounds.sync-B in
-    let shared = shared_sync (param 0 g.row.B) g.B.Room g.B.Spot c.type_bounds.send-B in
+    let shared = shared_sync _ (param 0 g.row.B) (param 4 g.row.L) g.B.Room g.B.Spot c.type_bounds.send-B c.type_bounds.sync-L in
     param_send 1 _ (arg_send _ no _ (six_send _ _ _ _ _ _ _ (shr_send _ _ _ c.type_bounds.sync-R) (shr_send _ _ _ cluster) (shr_send _ _ _ shared) (shr_send _ _ _ lobby_sync) (saver_send _ c.type_bounds.send-F)
     (spares_alone _ _ c.type_bounds.send-B)))
 
@@ -26,6 +26,6 @@ captures_send ν A B C D E a b c d e = search (sendable) depth 30
 pub join_three-spares-requires-send-G : goal.join_three-spares-requires-send-G
 join_three-spares-requires-send-G g c κs within =
     let cluster = cluster_sync (param 0 g.row.B) g.B.Room c.type_bounds.send-B c.type_bounds.sync-B in
-    let shared = shared_sync (param 0 g.row.B) g.B.Room g.B.Spot c.type_bounds.send-B in
+    let shared = shared_sync _ (param 0 g.row.B) (param 4 g.row.L) g.B.Room g.B.Spot c.type_bounds.send-B c.type_bounds.sync-L in
     let captured = captures_send [] _ _ _ _ _ (shr_send erased _ _ c.type_bounds.sync-R) (shr_send erased [] _ heap.the_sync) (shr_send erased _ _ cluster) (shr_send erased _ _ lobby_sync) (shr_send erased _ _ shared) in
     record { owned = captured.owned; leaving = (param_send 2 _ captured).leaving }

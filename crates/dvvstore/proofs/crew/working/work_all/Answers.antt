@@ -25,19 +25,19 @@ captures_sync ν A B C D E a b c d e = search (sendable) depth 30
 pub map_vec-back-requires-sync-F : goal.map_vec-back-requires-sync-F
 map_vec-back-requires-sync-F g c κs within =
     let cluster = cluster_sync (param 0 g.row.B) g.B.Room c.type_bounds.send-B c.type_bounds.sync-B in
-    let shared = shared_sync (param 0 g.row.B) g.B.Room g.B.Spot c.type_bounds.send-B in
+    let shared = shared_sync _ (param 0 g.row.B) (param 3 g.row.L) g.B.Room g.B.Spot c.type_bounds.send-B c.type_bounds.sync-L in
     record { shared = (captures_sync [] _ _ _ _ _ (shr_sync erased _ _ c.type_bounds.sync-R) (shr_sync erased [] _ heap.the_sync) (shr_sync erased _ _ cluster) (shr_sync erased _ _ lobby_sync) (shr_sync erased _ _ shared)).shared }
 
 pub map_vec-back-requires-send-J : goal.map_vec-back-requires-send-J
 map_vec-back-requires-send-J g c κs within =
-    let slots = work_all.dyn-1.slots g.row.B g.row.H g.row.R in
+    let slots = work_all.dyn-1.slots g.row.B g.row.H g.row.R g.row.L in
     param_send 1 _ (arg_send _ no _ (seat_send (Vt slots g.dyn-1.0) (ghosts_of slots g.dyn-1.0 g.dyn-1.1) (held_fn g.dyn-1.0) (search sendable depth 10) g.dyn-1.2
     (param 0 g.row.B) (param 1 g.row.H) g.B.Room c.type_bounds.send-B c.type_bounds.send-H))
 
 pub returns-clause-visited : goal.returns-clause-visited
 returns-clause-visited g c =
     if_both c.map_vec-back.result _ _ _ (λ v len each.
-    have_visited g.H.Hooks.finds g.H.Hooks.names g.H.HookChanges.takes (λ s. begun c.args.cluster.now s.pass s.hooking.hooks s.hooking.table.listed s.placement) c.args.seats.items v.items (omega (arith, len, v.ok.0, c.args.seats.ok.0))
+    have_visited g.H.Hooks.finds g.H.Hooks.names g.H.HookChanges.takes (λ s. begun c.args.cluster.now s.pass s.hooking.hooks s.hooking.table.listed s.placement) (λ p. p.pass) c.args.seats.items v.items (omega (arith, len, v.ok.0, c.args.seats.ok.0))
     (λ i seat back below. let job = (each i back below).1 in
-    subst (λ s. HasVisited g.H.Hooks.finds g.H.Hooks.names g.H.HookChanges.takes (begun c.args.cluster.now s.pass s.hooking.hooks s.hooking.table.listed s.placement) (slice_index_or v.items i back)) (sym (job.job_is seat)) job.call.met))
+    subst (λ s. HasVisited g.H.Hooks.finds g.H.Hooks.names g.H.HookChanges.takes (begun c.args.cluster.now s.pass s.hooking.hooks s.hooking.table.listed s.placement) (slice_index_or v.items i back).pass) (sym (job.job_is seat)) job.call.met))
     c.map_vec-back.ensures.len c.map_vec-back.ensures.each
