@@ -71,7 +71,7 @@ pub fn open<F: LogFolder + Drop, J: Naming>(
     })
 }
 
-impl<F: LogFolder + HooksFile, J: Naming> Ledger for Desk<F, J> {
+impl<F: LogFolder + HooksFile, J: Naming + Send> Ledger for Desk<F, J> {
     type Receipt = Receipt<J>;
 
     type Kept = Kept<J>;
@@ -124,7 +124,7 @@ impl<F: LogFolder + HooksFile, J: Naming> Ledger for Desk<F, J> {
     }
 }
 
-impl<F: Folder + LogFolder + HooksFile, J: Naming> Pages for Desk<F, J> {
+impl<F: Folder + LogFolder + HooksFile, J: Naming + Send> Pages for Desk<F, J> {
     fn wanted<R: Wait>(&self, rt: &R) -> Option<PageFault> {
         let pen = self.pen.lock(rt);
         if pen.is_stuck || pen.is_given_up() {

@@ -10,10 +10,10 @@ use std::sync::Wait;
 /// Where workers put down what they noted, so that it is kept.
 pub trait Ledger {
     /// What a worker has of a sheet that it put down.
-    type Receipt: Drop;
+    type Receipt: Drop + Send;
 
     /// What shows that a sheet is kept.
-    type Kept: Drop;
+    type Kept: Drop + Send;
 
     /// A sheet was put down, and this is its receipt.
     ghost put: { Self → OneSheet → Self.Receipt → Type 0 };
