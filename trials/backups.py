@@ -37,14 +37,17 @@ QUICK = True
 
 @dataclass(frozen=True)
 class Size:
-    """How many starts the store has, how many copies are made in each, and how many keys lie in it besides those that are written."""
+    """How many starts a store has, how many copies are made in each, and how many keys lie in it besides those that are written; at how
+    many vnodes each key has a copy, of one store after another."""
 
     starts: int
     copies: int
     keys: int
+    at_vnodes: tuple
 
 
-FULL, SHORT = Size(starts=5, copies=6, keys=20_000), Size(starts=2, copies=3, keys=1_000)
+FULL = Size(starts=3, copies=6, keys=20_000, at_vnodes=(1, 3))
+SHORT = Size(starts=2, copies=3, keys=1_000, at_vnodes=(1,))
 
 PAGE = TOP / "docs" / "OPERATIONS.md"
 MAKES_A_COPY, PUTS_IT_BACK, LOOKS_AT_IT, RAISES_THE_NUMBER = "-cf copy.tar", "-xf copy.tar", "echo stop |", "number $N"
@@ -406,17 +409,24 @@ class Life:
             self.found.say(f"a copy that lacks a file: {kept.loaded_from(self.program, lacking)} of {records} records, and no word")
 
 
-def run(program: Path, seed: int, size: Size) -> Result:
-    found, chance = Findings(), random.Random(seed)
+def try_store(found: Findings, program: Path, chance: random.Random, size: Size, at_vnodes: int) -> Life:
+    """Tries a store each key of which has a copy at so many vnodes."""
     known: list[History] = [
         {f"c{number}-{place}": [frozenset()] for place in range(kills.KEYS_OF_A_CLIENT)} for number in range(kills.CLIENTS)
     ]
     known[0][kills.BOUND] = [False]
-    with kept.folders(settings=kept.NO_SNAPSHOTS_BY_ITSELF) as folder:
+    with kept.folders(settings=kept.NO_SNAPSHOTS_BY_ITSELF + b"copies %d\n" % at_vnodes) as folder:
         (folder / kept.SETTINGS).chmod(OWNERS_FILE)
         life = Life(found, program, folder, chance, size, str(library("later.c", folder.parent / "later.so")), known)
         life.try_lives()
         life.try_across_starts()
         life.try_in_its_place()
         life.try_looks()
-    return found.result(f"{life.copies} copies, {life.in_midst} in the midst of a snapshot; {life.starts} starts")
+    return life
+
+
+def run(program: Path, seed: int, size: Size) -> Result:
+    found, chance = Findings(), random.Random(seed)
+    lives = [try_store(found, program, chance, size, at_vnodes) for at_vnodes in size.at_vnodes]
+    copies, in_midst, starts = (sum(getattr(life, what) for life in lives) for what in ("copies", "in_midst", "starts"))
+    return found.result(f"{copies} copies, {in_midst} in the midst of a snapshot; {starts} starts")

@@ -3,8 +3,8 @@
 Each document below has sessions in a shell, as sessions.py says, a server and a copy of the repository of its own, and begins at its
 top.
 
-The page of trials is compared with the trials: it has a row for each, with the promise that stands there. Each command line of the page
-of operations has to be one that a trial picks out by a word of its own, and runs. What the program prints of its version and its
+The page of trials is compared with the trials: it has a row for each, with the promise that stands there. Each command line of the pages
+of operations and of security has to be one that a trial picks out by a word of its own, and runs. What the program prints of its version and its
 toolchain is compared with CHANGELOG.md and README.md.
 """
 from __future__ import annotations
@@ -28,9 +28,11 @@ FULL = SHORT = Whole()
 # What a document needs besides bash and curl.
 DOCUMENTS: dict[str, tuple[str, ...]] = {"README.md": (), "docs/HTTP.md": (), "docs/HOOKS.md": ("clang", "llvm-objdump", "llvm-objcopy")}
 TESTING = "docs/TESTING.md"
-# The page whose lines are run by trials of their own, and the shortest text by which one is picked out.
-OPERATIONS = "docs/OPERATIONS.md"
-RUN_ITS_LINES = ("service", "backups", "systemd", "container", "proxies")
+# The pages whose lines are run by trials of their own, and the shortest text by which one is picked out.
+RUN_THEIR_LINES = {
+    "docs/OPERATIONS.md": ("service", "backups", "systemd", "container", "proxies"),
+    "docs/SECURITY.md": ("neighbours",),
+}
 LEAST_WORD = 6
 CHANGES = "CHANGELOG.md"
 END_SECONDS = 60
@@ -67,13 +69,13 @@ def texts_of(source: Path) -> set[str]:
     return {node.value for node in nodes if isinstance(node, ast.Constant) and isinstance(node.value, str)}
 
 
-def try_page_of_operations(found: Findings) -> None:
-    """Whether each command line of the page has a word in a trial that no other line of it has."""
-    lines = lines_of_page(TOP / OPERATIONS)
-    words = set().union(*(texts_of(TOP / "trials" / f"{name}.py") for name in RUN_ITS_LINES))
+def try_page_of_lines(found: Findings, page: str, names: tuple[str, ...]) -> None:
+    """Whether each command line of a page has a word in one of these trials that no other line of it has."""
+    lines = lines_of_page(TOP / page)
+    words = set().union(*(texts_of(TOP / "trials" / f"{name}.py") for name in names))
     for line in lines:
         is_run = any(len(word) >= LEAST_WORD and word in line and sum(word in other for other in lines) == 1 for word in words)
-        found.hold(is_run, f"{OPERATIONS}: no trial runs `{line}`")
+        found.hold(is_run, f"{page}: no trial runs `{line}`")
 
 
 def try_version(found: Findings, program: Path) -> None:
@@ -96,6 +98,7 @@ def run(program: Path, seed: int, size: Whole) -> Result:
         else:
             counts.append(try_document(found, name, program))
     try_page_of_trials(found)
-    try_page_of_operations(found)
+    for page, names in RUN_THEIR_LINES.items():
+        try_page_of_lines(found, page, names)
     try_version(found, program)
     return found.result(f"{sum(counts)} commands of {len(counts)} documents")
