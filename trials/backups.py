@@ -21,7 +21,7 @@ import shutil
 import stat
 import threading
 import time
-from collections.abc import Callable, Mapping, Sequence
+from collections.abc import Callable, Iterator, Mapping, Sequence
 from dataclasses import dataclass, field
 from pathlib import Path
 
@@ -233,7 +233,7 @@ class Life:
                 server.stop_in_order()
 
     @contextlib.contextmanager
-    def written(self, server: Server):
+    def written(self, server: Server) -> Iterator[tuple[list[kills.Writer], Snapshooter]]:
         """Clients that write, and snapshots, for as long as it is needed."""
         chances = [random.Random(self.chance.random()) for _ in range(kills.CLIENTS + 1)]
         ways = zip(range(kills.CLIENTS), self.known, self.contexts, chances)
