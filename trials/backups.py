@@ -97,6 +97,29 @@ class Snapshooter(threading.Thread):
         time.sleep(self.chance.uniform(0, self.last_seconds))
 
 
+class Writer(kills.Writer):
+    """A client as in kills.py, which knows since when what may stand."""
+
+    def __init__(self, server: Server, number: int, known: History, contexts: dict, chance: random.Random):
+        super().__init__(server, number, known, contexts, chance)
+        self.moments = {key: [(0.0, may)] for key, may in known.items()}
+
+    def note(self, key: str, may: list) -> None:
+        super().note(key, may)
+        self.moments[key].append((time.monotonic(), may))
+
+    def stood(self, begun: float, ended: float) -> History:
+        """What stood under each key at some time between two moments."""
+        may: History = {}
+        for key, moments in self.moments.items():
+            noted = [one for one in list(moments) if one[0] <= ended]
+            first = max(place for place, (moment, _) in enumerate(noted) if moment <= begun)
+            may[key] = []
+            for _, ones in noted[first:]:
+                may[key] += [one for one in ones if one not in may[key]]
+        return may
+
+
 @dataclass(frozen=True)
 class Given:
     """A write of a key: its value, its tag, and the context of a read behind it."""
@@ -121,18 +144,6 @@ class Copy:
     before: Given
     behind: Given
     is_in_midst: bool
-
-
-def stood(writer: kills.Writer, begun: float, ended: float) -> History:
-    """What stood under each key of a client at some time between two moments."""
-    may: History = {}
-    for key, noted in list(writer.history.items()):
-        history = [one for one in list(noted) if one[0] <= ended]
-        first = max(place for place, (moment, _) in enumerate(history) if moment <= begun)
-        may[key] = []
-        for _, ones in history[first:]:
-            may[key] += [one for one in ones if one not in may[key]]
-    return may
 
 
 def given(client: Client, name: str) -> Given:
@@ -233,11 +244,11 @@ class Life:
                 server.stop_in_order()
 
     @contextlib.contextmanager
-    def written(self, server: Server) -> Iterator[tuple[list[kills.Writer], Snapshooter]]:
+    def written(self, server: Server) -> Iterator[tuple[list[Writer], Snapshooter]]:
         """Clients that write, and snapshots, for as long as it is needed."""
         chances = [random.Random(self.chance.random()) for _ in range(kills.CLIENTS + 1)]
         ways = zip(range(kills.CLIENTS), self.known, self.contexts, chances)
-        writers = [kills.Writer(server, number, known, contexts, chance) for number, known, contexts, chance in ways]
+        writers = [Writer(server, number, known, contexts, chance) for number, known, contexts, chance in ways]
         snapshooter = Snapshooter(server, chances[-1])
         threads: Sequence[threading.Thread] = (*writers, snapshooter)
         for thread in threads:
@@ -251,7 +262,7 @@ class Life:
             for fault in [fault for thread in threads for fault in thread.faults]:
                 self.found.fail(fault)
 
-    def try_one(self, server: Server, client: Client, writers: Sequence[kills.Writer], snapshooter: Snapshooter) -> None:
+    def try_one(self, server: Server, client: Client, writers: Sequence[Writer], snapshooter: Snapshooter) -> None:
         """Makes a copy and tries it, while the store goes on."""
         way = (self.by_the_page, self.slowly)[self.copies % 2]
         self.copies += 1
@@ -260,7 +271,7 @@ class Life:
         self.try_copy(copy, f"copy {self.copies}", client)
         shutil.rmtree(copy.folder)
 
-    def taken(self, client: Client, writers: Sequence[kills.Writer], snapshooter: Snapshooter, way: Callable[[Path], None]) -> Copy:
+    def taken(self, client: Client, writers: Sequence[Writer], snapshooter: Snapshooter, way: Callable[[Path], None]) -> Copy:
         before = given(client, f"before-{self.copies}")
         if self.chance.random() < IN_THE_MIDST:
             snapshooter.wait_into_the_midst_of_one()
@@ -268,7 +279,7 @@ class Life:
         way(folder)
         ended = time.monotonic()
         behind = given(client, f"behind-{self.copies}")
-        return Copy(folder, [stood(writer, begun, ended) for writer in writers], before, behind, is_in_midst)
+        return Copy(folder, [writer.stood(begun, ended) for writer in writers], before, behind, is_in_midst)
 
     def by_the_page(self, folder: Path) -> None:
         """Makes an archive and puts it back, by the lines of the page."""
