@@ -1,13 +1,12 @@
 """Copies the folder of a kept store while it is written and kept, starts each copy beside it, and one in its place.
 
 Three clients write, delete and bind a hook as in kills.py, and snapshots are made one after another, so most copies begin in the midst
-of one. A copy is made by the line of docs/OPERATIONS.md, by `cp -a`, or slowly, file by file in any order, with what is half written
-too; in one more the server is stopped and started between two files. Each has to start. Each key has to be as it was at some moment between the
-beginning of the last snapshot that was whole when the copy was begun, and its end. Keys that were written before, and a hook that was
-bound, have to be there.
+of one. A copy is made by the line of docs/OPERATIONS.md, or slowly, file by file in the order of names, with what is half written too.
+In one more the server is stopped and started between two files. Each has to start. Each key has to be as it was at some moment between
+the beginning of the copy and its end. Keys that were written before, and a hook that was bound, have to be there.
 
 A copy is started by a clock that is ahead of the store's, as one that is put back later, or with a number that the page's line raises.
-No two starts may have one number. A context of before that snapshot has to be taken by the copy. One of a write behind the copy has to
+No two starts may have one number. A context of before has to be taken by the copy. One of a write behind the copy has to
 be refused there (412 `P1`) and let nothing go, and so a context of the copy at the store, at a later start of it, too.
 
 The page's line that looks at a copy has to print how many records it has. An archive that was cut has to be told by its sum. Of a
@@ -20,7 +19,6 @@ import os
 import random
 import shutil
 import stat
-import subprocess
 import threading
 import time
 from collections.abc import Callable, Iterator, Mapping, Sequence
@@ -30,7 +28,7 @@ from pathlib import Path
 import kept
 import kills
 from server import VNODES_PER_NUMBER, Client, Server, entries_of, request, vnode_of
-from trial import TOP, Findings, Result, library, line_of_page, run_line, tool
+from trial import TOP, Findings, Result, library, line_of_page, run_line
 
 NAME = "backups"
 PROMISES = "A copy of a folder taken at any moment starts, has what was kept, and gives no number again."
@@ -55,7 +53,7 @@ PAGE = TOP / "docs" / "OPERATIONS.md"
 MAKES_A_COPY, PUTS_IT_BACK, LOOKS_AT_IT, RAISES_THE_NUMBER = "-cf copy.tar", "-xf copy.tar", "echo stop |", "number $N"
 SUMS_IT, COMPARES_THE_SUM = "> copy.tar.sha256", "sha256sum -c"
 TAKEN = (0, 1)  # 1 where a file was replaced while it was read
-ARCHIVE, HALF_WRITTEN = "copy.tar", ".part"
+ARCHIVE = "copy.tar"
 CUTS = 4
 
 WRITTEN_TOGETHER = 64
@@ -72,30 +70,25 @@ History = dict[str, list]
 
 
 class Snapshooter(threading.Thread):
-    """Asks for snapshots, one after another, and knows when the last that was whole was asked for."""
+    """Asks for snapshots, one after another."""
 
     def __init__(self, server: Server, chance: random.Random):
         super().__init__()
         self.server, self.chance = server, chance
-        self.last_whole, self.is_asked, self.is_over = 0.0, False, False
-        self.last_seconds, self.faults = 0.0, []
+        self.is_asked, self.is_over, self.last_seconds = False, False, 0.0
+        self.faults: list[str] = []
 
     def run(self) -> None:
         while not self.is_over:
             begun, self.is_asked = time.monotonic(), True
             line = self.server.snapshot(SNAPSHOT_SECONDS)
             if kept.is_whole_snapshot(line):
-                self.last_whole, self.last_seconds = begun, time.monotonic() - begun
+                self.last_seconds = time.monotonic() - begun
             else:
                 self.faults.append(f"a snapshot: {line}")
                 self.is_over = True
             self.is_asked = False
             time.sleep(self.chance.uniform(0, MOST_REST_SECONDS))
-
-    def wait_for_one_behind(self, moment: float) -> None:
-        """Waits until one is whole that was asked for behind a moment."""
-        while self.last_whole <= moment and not self.is_over:
-            time.sleep(LOOK_SECONDS)
 
     def wait_into_the_midst_of_one(self) -> None:
         """Waits until the next has been made for a while."""
@@ -144,7 +137,7 @@ class Given:
 
 @dataclass
 class Copy:
-    """A copy, what may stand in it for each client, and what was written before the last whole snapshot and behind the copy."""
+    """A copy, what may stand in it for each client, and what was written before and behind it."""
 
     folder: Path
     may: list[History]
@@ -167,10 +160,10 @@ def is_covered(context: str, known: str | None) -> bool:
 
 
 def copy_slowly(folder: Path, to: Path, chance: random.Random, between: Callable[[], None] = lambda: None) -> None:
-    """Copies file by file, in any order and with rests, those that are half written too."""
+    """Copies file by file, logs before files of vnodes, with rests, those that are half written too."""
     to.mkdir(mode=OWNERS_FOLDER)
     names = [path.name for path in folder.iterdir()]
-    for name in chance.sample(names, len(names)):
+    for name in sorted(names):
         with contextlib.suppress(FileNotFoundError), open(folder / name, "rb") as source, open(to / name, "wb") as made:
             while piece := source.read(PIECE_BYTES):
                 made.write(piece)
@@ -271,7 +264,7 @@ class Life:
 
     def try_one(self, server: Server, client: Client, writers: Sequence[Writer], snapshooter: Snapshooter) -> None:
         """Makes a copy and tries it, while the store goes on."""
-        way = (self.by_the_page, self.slowly, self.by_cp)[self.copies % 3]
+        way = (self.by_the_page, self.slowly)[self.copies % 2]
         self.copies += 1
         copy = self.taken(client, writers, snapshooter, way)
         self.in_midst += copy.is_in_midst
@@ -280,10 +273,9 @@ class Life:
 
     def taken(self, client: Client, writers: Sequence[Writer], snapshooter: Snapshooter, way: Callable[[Path], None]) -> Copy:
         before = given(client, f"before-{self.copies}")
-        snapshooter.wait_for_one_behind(time.monotonic())
         if self.chance.random() < IN_THE_MIDST:
             snapshooter.wait_into_the_midst_of_one()
-        begun, is_in_midst, folder = snapshooter.last_whole, snapshooter.is_asked, self.room / f"copy-{self.copies}"
+        begun, is_in_midst, folder = time.monotonic(), snapshooter.is_asked, self.room / f"copy-{self.copies}"
         way(folder)
         ended = time.monotonic()
         behind = given(client, f"behind-{self.copies}")
@@ -301,12 +293,6 @@ class Life:
 
     def slowly(self, folder: Path) -> None:
         copy_slowly(self.folder, folder, self.chance)
-
-    def by_cp(self, folder: Path) -> None:
-        ran = subprocess.run([tool("cp"), "-a", self.folder, folder], capture_output=True, text=True)
-        # What is gone before it is opened was half written.
-        are_half_written = all(f"{HALF_WRITTEN}'" in line for line in ran.stderr.splitlines())
-        self.found.hold(ran.returncode in TAKEN and are_half_written, f"cp: {ran}")
 
     def try_copy(self, copy: Copy, what: str, store: Client | None) -> None:
         """Starts a copy, and compares it with what it has to have. The store may go on beside it."""
