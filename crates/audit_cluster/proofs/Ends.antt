@@ -3,7 +3,7 @@ use Rattle.std.proofs.Common.{◌≡◌, ℕ, zero, suc, ◌+◌, ◌<◌, ◌==
 use Rattle.std.proofs.lemmas.List.{append-nil}
 use Rattle.std.proofs.Math.Seq.{drop-append_seam}
 use Rattle.std.proofs.lemmas.Option.{same_Some}
-use Rattle.std.specs.Prelude.{slice_get, None, Some, Contains, Result, Ok, Err, is_ok, is_err}
+use Rattle.std.specs.Prelude.{slice_get, None, Some, Contains, Result, Ok, Err, IfOk, is_ok, is_err}
 use Rattle.std.proofs.lemmas.List.Elements.{Contains-append_left, Contains-append_right}
 use Rattle.journal.specs.Entry.{Entry}
 use Rattle.journal.specs.Logs.{Log}
@@ -24,6 +24,11 @@ use Rattle.audit_faults.specs.declared.fault.WatchFault.TheVariants.{Found, Lost
 use Rattle.audit_follower.specs.Stops.{IsStop}
 use Rattle.audit_follower.specs.Waiting.{Taken, AreTakenAlike, IsNext, taken_at, waiting_at}
 use Rattle.audit_cluster.specs.Following.{told_of, is_hand_out, all_taken, answers_kept, AreFronts, HasStopped, HasTaken, IsFollowedTo, IsSaidOf, IsTakenTo, StopsIn}
+
+-- what holds anyhow holds of a yes
+pub if_any : {T E : Type 0} (r : Result T E) (P : Type 0) → P → IfOk r (λ v. P)
+if_any (Ok v) P p = p
+if_any (Err e) P p = tt
 
 -- ---- what was taken are fronts
 

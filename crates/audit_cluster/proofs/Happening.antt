@@ -1,24 +1,21 @@
 -- The calls of passes as steps of the run.
-use Rattle.std.proofs.Common.{◌≡◌, ◌↔◌, ◌⊎◌, inl, inr, ℕ, zero, suc, ◌+◌, ◌<◌, ◌≤◌, List, [], ◌∷◌, ◌++◌, length, get_or, take, refl, sym, ap, subst, ◌∙◌, arith, Some, Ok, Err}
+use Rattle.std.proofs.Common.{◌≡◌, ◌↔◌, ◌⊎◌, inl, inr, ℕ, zero, suc, ◌<◌, ◌≤◌, List, [], ◌∷◌, ◌++◌, length, get_or, take, refl, sym, ap, subst, ◌∙◌, arith, Some, Ok, Err}
 use Rattle.std.specs.Prelude.{slice_get, Contains}
 use Rattle.std.proofs.Math.Seq.{take-append_seam}
 use Rattle.dvv.specs.declared.Dot.{Dot}
 use Rattle.key_state.specs.declared.content.Content.{Content}
 use Rattle.key_state.specs.declared.content.Key.{Key}
-use Rattle.key_state.specs.Parts.{Summarized}
 use Rattle.key_state.specs.State.{State}
 use Rattle.journal.specs.Entry.{Entry, Put}
 use Rattle.journal.specs.Logs.{Log}
 use Rattle.journal.specs.Replay.{IsReplay}
 use Rattle.journal.specs.Stamps.{stamp_of}
 use Rattle.cluster_stamps.specs.Rule.{StampsRise}
-use Rattle.cluster_stamps.specs.declared.request.Reply.TheVariants as reply
-use Rattle.cluster_stamps.specs.declared.request.Request.TheVariants as request
 use Rattle.cluster_stamps.specs.declared.view.News.{News}
 use Rattle.cluster_stamps.specs.declared.view.News.TheVariants as news
 use Rattle.cluster_stamps.specs.declared.view.Told.{Told}
 use Rattle.cluster_vnode.specs.Answers.{IsSaid, entries_made, entry_of_call, log_of}
-use Rattle.cluster_vnode.specs.Gathers.{IsGathered, Stands}
+use Rattle.cluster_vnode.specs.Gathers.{Stands}
 use Rattle.cluster_vnode.proofs.Counts.{stamp_entry}
 use Rattle.world.specs.Knowledge.{Knowledge, IsStateOf, known_at, next_dot}
 use Rattle.world.specs.Represents.{log_at}
@@ -34,7 +31,7 @@ place_of [] k v lt is = absurd (omega arith)
 place_of (u ∷ us) zero v lt is = is
 place_of (u ∷ us) (suc k) v lt is = place_of us k v (omega arith) is
 
-behind_front : (front : List Entry) (e : Entry) (rest : List Entry) (n : ℕ) → length front ≡ n → slice_get (front ++ e ∷ rest) n ≡ Some e
+pub behind_front : (front : List Entry) (e : Entry) (rest : List Entry) (n : ℕ) → length front ≡ n → slice_get (front ++ e ∷ rest) n ≡ Some e
 behind_front [] e rest zero is = refl
 behind_front [] e rest (suc n) is = absurd (omega arith)
 behind_front (x ∷ front) e rest zero is = absurd (omega arith)
@@ -50,7 +47,7 @@ first_is : (a b : Entry) → a ∷ [] ≡ b ∷ [] → a ≡ b
 first_is a b is = ap (λ (l : List Entry). get_or l 0 a) is
 
 -- an entry has the stamp of its call
-stamp_is : (stamp : ℕ) (n : News) (e : Entry) → entries_made stamp n ≡ e ∷ [] → stamp_of e ≡ stamp
+pub stamp_is : (stamp : ℕ) (n : News) (e : Entry) → entries_made stamp n ≡ e ∷ [] → stamp_of e ≡ stamp
 stamp_is stamp (news.Call asked (Ok told)) e is = ap stamp_of (sym (first_is _ e is)) ∙ stamp_entry stamp asked told
 stamp_is stamp (news.Call asked (Err why)) e is = absurd cc
 stamp_is stamp (news.HandOut first entries) e is = absurd cc
@@ -88,7 +85,7 @@ module _ {begin : Knowledge} {fronts : List ℕ} {logs : List Log} (run : IsInte
       let entries : (log_at logs has.0).entries ≡ front ++ (e ∷ rest) = ap (λ (l : Log). l.entries) here ∙ parts ∙ ap (λ (es : List Entry). front ++ (es ++ rest)) made in
       let there : EntryIn logs has.0 t.at e = (has.1, ap (λ (es : List Entry). slice_get es t.at) entries ∙ behind_front front e rest t.at long) in
       let vnode : (log_at logs has.0).vnode ≡ t.vnode = ap (λ (l : Log). l.vnode) here ∙ id in
-      let found = steps has.0 t.at e there (behind has.0 has.1 vnode) in
+      let found = steps has.0 t.at e there (behind e made has.0 has.1 vnode) in
       let before : take t.at (log_at logs has.0).entries ≡ front = ap (λ (es : List Entry). take t.at es) entries ∙ ap (λ (k : ℕ). take k (front ++ (e ∷ rest))) (sym long) ∙ take-append_seam front (e ∷ rest) in (
         found.0,
         record {

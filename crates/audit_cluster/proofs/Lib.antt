@@ -3,6 +3,6 @@ mod Counts
 mod Taken
 mod Left
 mod Ends
-mod Happening
+pub mod Happening
 pub mod Rows
 pub mod Sent

@@ -1,5 +1,5 @@
 -- Worked rows of calls in a run, and wrong ones that are refused.
-use Rattle.std.proofs.Common.{◌≡◌, ◌↔◌, ℕ, zero, suc, ◌+◌, ◌<◌, ◌≤◌, List, [], ◌∷◌, length, refl, sym, ap, ◌∙◌, arith, Some, None, Ok, Err, true}
+use Rattle.std.proofs.Common.{◌≡◌, ◌↔◌, ℕ, zero, suc, ◌<◌, ◌≤◌, List, [], ◌∷◌, refl, sym, ◌∙◌, arith, Some, None, Ok, Err, true}
 use Rattle.dvv.specs.declared.Dot.{Dot}
 use Rattle.key_state.specs.declared.content.Content.{Content}
 use Rattle.key_state.specs.declared.content.Key.{Key}
@@ -8,7 +8,6 @@ use Rattle.key_state.specs.State.{State, content_at}
 use Rattle.vnode.specs.declared.fault.PartFault.{PartFault}
 use Rattle.journal.specs.Logs.{Log}
 use Rattle.cluster_stamps.specs.Rule.{StampsRise, call_of}
-use Rattle.cluster_stamps.specs.declared.request.Reply.{Reply}
 use Rattle.cluster_stamps.specs.declared.request.Reply.TheVariants as reply
 use Rattle.cluster_stamps.specs.declared.request.Request.{Request}
 use Rattle.cluster_stamps.specs.declared.request.Request.TheVariants as request
@@ -16,7 +15,7 @@ use Rattle.cluster_stamps.specs.declared.view.News.TheVariants as news
 use Rattle.cluster_stamps.specs.declared.view.Told.{Told}
 use Rattle.world.specs.Knowledge.{Knowledge, known_at, next_dot}
 use Rattle.audit_replay.specs.Interleaved.{IsInterleavingFrom}
-use Rattle.audit_cluster.specs.Moments.{HappenFrom, IsCallOf, IsKnownOf, a_step, all_happened, no_entry}
+use Rattle.audit_cluster.specs.Moments.{HappenFrom, IsCallBehind, IsCallOf, IsKnownOf, a_step, all_happened, no_entry}
 
 -- a write of two copies by one pass: its put at the vnode 258, and the merge at the vnode 256 behind it
 module _ (key : Key) (seen : List Dot) (content : Content) (dot : Dot) (state : State) where
@@ -25,6 +24,14 @@ module _ (key : Key) (seen : List Dot) (content : Content) (dot : Dot) (state : 
 
   abbrev merge : Told
   merge = call_of 256 3 22 (request.Merge key 258 8 state) (Ok (reply.Changed true))
+
+  -- the put stands behind 7 entries that were there before, and not behind 8
+  behind_seven : (log : Log) → IsCallBehind (7 ∷ []) (log ∷ []) put
+  behind_seven log entry made zero inside is = omega arith
+  behind_seven log entry made (suc index) inside is = absurd (omega (arith, inside))
+
+  not_behind_eight : (log : Log) → log.vnode ≡ 258 → IsCallBehind (8 ∷ []) (log ∷ []) put → ⊥
+  not_behind_eight log is behind = let le : 8 ≤ 7 = behind _ refl 0 (omega arith) is in omega (arith, le)
 
   -- their stamps rise
   rise : StampsRise (put ∷ merge ∷ [])

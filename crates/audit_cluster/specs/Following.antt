@@ -62,6 +62,10 @@ IsFollowedTo told vnodes (Err (Found fault)) = (logs : List Log) × IsGathered t
 IsFollowedTo told vnodes (Err Lost) = Unit {0}
 IsFollowedTo told vnodes (Err NoMemory) = Unit {0}
 
+-- these are journals of vnodes that are numbered from the first on, each at the place of its number
+abbrev pub AreNumbered : ℕ → List Log → Type 0
+AreNumbered first logs = (index : ℕ) → index < length logs → (log_at logs index).vnode ≡ first + index
+
 -- ---- what a watch has taken
 
 -- a part of the journal was handed out

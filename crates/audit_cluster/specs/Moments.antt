@@ -1,10 +1,11 @@
 -- What vnodes told, in the one run that gathered journals are (dotted version vectors, Preguiça et al. 2010; the order of stamps is this store's profile).
-use Rattle.std.specs.Prelude.{◌≡◌, ◌<◌, ◌≤◌, ℕ, suc, List, [], ◌∷◌, length, slice_get, Ok, Some}
+use Rattle.std.specs.Prelude.{◌≡◌, ◌<◌, ◌≤◌, ℕ, suc, List, [], ◌∷◌, Contains, length, slice_get, Ok, Some}
 use Rattle.dvv.specs.declared.Dot.{Dot}
 use Rattle.key_state.specs.declared.content.Content.{Content}
 use Rattle.key_state.specs.declared.content.Key.{Key}
 use Rattle.key_state.specs.Parts.{Summarized}
 use Rattle.key_state.specs.State.{State}
+use Rattle.journal.specs.Entry.{Entry}
 use Rattle.journal.specs.Logs.{Log}
 use Rattle.cluster_stamps.specs.declared.request.Reply.TheVariants as reply
 use Rattle.cluster_stamps.specs.declared.request.Request.TheVariants as request
@@ -18,6 +19,7 @@ use Rattle.world.specs.Running.{IsSummaryOf}
 use Rattle.audit_replay.specs.Beginnings.{IsBehind, steps_behind}
 use Rattle.audit_replay.specs.Interleaved.{IsInterleavingFrom, known_before}
 use Rattle.audit_replay.specs.Order.{Step}
+use Rattle.audit_replay.specs.Turns.{count_at}
 
 -- the step with this number is the entry that a call made
 pub record IsStepOf (logs : List Log) (steps : List Step) (number : ℕ) (t : Told) : Type 0 where
@@ -45,6 +47,15 @@ pub data HappenFrom {begin : Knowledge} {fronts : List ℕ} {logs : List Log} (r
   a_step : (low number : ℕ) (t : Told) (ts : List Told) → low ≤ number → IsCallOf run number t → HappenFrom run (suc number) ts → HappenFrom run low (t ∷ ts)
   no_entry : (low : ℕ) (t : Told) (ts : List Told) → entry_of_call t ≡ [] → HappenFrom run low ts → HappenFrom run low (t ∷ ts)
 
--- a call lies behind the front of its vnode's journal
+-- a call lies behind the front of its vnode's journal, if it made an entry
 abbrev pub IsCallBehind : List ℕ → List Log → Told → Type 0
-IsCallBehind fronts logs t = (index : ℕ) → index < length logs → (log_at logs index).vnode ≡ t.vnode → IsBehind fronts index t.at
+IsCallBehind fronts logs t = (entry : Entry) → entry_of_call t ≡ entry ∷ [] → (index : ℕ) → index < length logs → (log_at logs index).vnode ≡ t.vnode → IsBehind fronts index t.at
+
+-- each entry of these fronts of the journals was made by one of these calls
+abbrev pub AreMadeBy : List Told → List ℕ → List Log → Type 0
+AreMadeBy told fronts logs =
+    (index place : ℕ) → index < length logs → place < count_at fronts index → (t : Told) × Contains told t × (t.vnode ≡ (log_at logs index).vnode) × (t.at ≡ place) × ((entry : Entry) × (entry_of_call t ≡ entry ∷ []))
+
+-- these calls are steps of whatever run the journals are that goes on from these fronts, one behind the other
+abbrev pub HappenBehind : List ℕ → List Log → List Told → Type 0
+HappenBehind fronts logs ts = (begin : Knowledge) (run : IsInterleavingFrom begin fronts logs) → HappenFrom run 0 ts

@@ -6,7 +6,7 @@ ghost use Rattle.audit_faults.specs.declared.fault.AuditFault.{AuditFault as Fau
 ghost use Rattle.audit_faults.specs.Unsaid.{IsNoYes};
 ghost use Rattle.cluster_vnode.specs.Gathers.{IsGathered};
 ghost use Rattle.world.specs.Represents.{log_at};
-ghost use Rattle.audit_cluster.specs.Following.{AreFronts, IsFollowedTo, IsLong, IsOfWatch, IsSaidOf, IsTakenTo, StopsIn, answers_kept};
+ghost use Rattle.audit_cluster.specs.Following.{AreFronts, AreNumbered, IsFollowedTo, IsLong, IsOfWatch, IsSaidOf, IsTakenTo, StopsIn, answers_kept};
 
 use crate::copying::rest_of;
 use crate::watch::{Left, Spot, Watch};
@@ -62,8 +62,8 @@ pub struct Closed {
 
 /// Gathers a cluster, all of whose passes are back, the watch's too, and has what is left of the journals of its vnodes followed. So many
 /// of the first entries of each vnode, by index, were there before: its front, from which the watch began. The journals are one run from
-/// there on, for each beginning that has led to the fronts; where there are none, from their first entries on. The vnodes are handed back,
-/// whatever is said of them.
+/// there on, for each beginning that has led to the fronts; where there are none, from their first entries on. Each of them stands at the
+/// place of its vnode's number then. The vnodes are handed back, whatever is said of them.
 ///
 /// What is said is the follower's fault, which may have been found while the cluster served: so much of the journals is one run, and the
 /// entry that comes next is wrong so. `Lost` where it didn't take all that the vnodes handed out, or follows others, or began from other
@@ -79,6 +79,8 @@ pub fn close_watched<B: Room + Spot>(
     requires back { cluster.passes ≤ vec_len passes + 1 }
     ensures kept { IfOk result (λ closed. IsGathered (flat_map (λ p. p.told) passes.items ++ watch.told) closed.vnodes.items × (vec_len closed.vnodes ≡ cluster.vnodes)) }
     ensures said { IfOk result (λ closed. IsSaidOf fronts.now closed.vnodes.items closed.said) }
+    // A yes is of journals that stand at the places of their numbers, as the fronts do.
+    ensures numbered { IfOk result (λ closed. IfOk closed.said (λ all. AreNumbered B.first closed.vnodes.items)) }
     // The calls of the watch are its own.
     ensures watched { All IsOfWatch watch.told }
     // Where nothing was there before, a yes is that of the journals from their first entries on.

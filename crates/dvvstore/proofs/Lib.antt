@@ -1,4 +1,5 @@
 mod Among
+mod Fronts
 mod Over
 mod Putting
 mod SeatSent

@@ -1,5 +1,5 @@
 -- What the workers of a store that is left were told.
-use Rattle.std.proofs.Common.{◌≡◌, ◌∙◌, ◌++◌, ℕ, List, Option, Result, Ok, Err, IfOk, Some, [], ◌∷◌, ap, map, refl, reverse, subst, sym, vec_len}
+use Rattle.std.proofs.Common.{◌≡◌, ◌∙◌, ◌/◌, ◌++◌, ℕ, List, Option, Result, Ok, Err, IfOk, Some, [], ◌∷◌, ap, length, map, refl, reverse, subst, sym, vec_len}
 use Rattle.std.specs.List.{All}
 use Rattle.std.specs.Option.{option_map}
 use Rattle.std.proofs.lemmas.List.{map-append, reverse-append}
@@ -18,12 +18,17 @@ use Rattle.cluster_stamps.specs.declared.view.Size.{Size}
 use Rattle.server_one_thread.specs.Passes.{Passing}
 use Rattle.server_store.specs.View.{StoreView}
 use Rattle.cluster_stamps.specs.declared.view.View.{View}
-use Rattle.dvvstore.proofs.VisitLemmas.{visits_gathered}
-use Rattle.dvvstore.specs.Asides.{AreGathered}
+use Rattle.audit_cluster.specs.Following.{AreNumbered}
+use Rattle.kept_file.specs.declared.file.KeptFile.{KeptFile}
+use Rattle.kept_fold.specs.Folds.{AreFolded}
+use Rattle.dvvstore.proofs.Fronts.{fronts_made}
+use Rattle.dvvstore.proofs.VisitLemmas.{answers_as, visits_gathered}
+use Rattle.dvvstore.specs.Asides.{AreBrought, AreGathered}
 use Rattle.dvvstore.specs.Crews.{by_digest}
-use Rattle.dvvstore.specs.Keeping.{HasServed, LeavesServed, left_as}
+use Rattle.dvvstore.specs.Keeping.{GoesFrom, HasBegunWith, HasServed, IsLeftFrom, Leaves, LeavesFolded, LeavesServed, fronts_for, left_as}
 use Rattle.dvvstore.specs.Visits.{AfterAnswers, AreBegun, AreOfTables, AreStarts, HaveBegun, IsLastBegun, IsOver}
 use Rattle.dvvstore.specs.declared.crew.running.Served.{Served}
+use Rattle.dvvstore.specs.declared.keeper.Begun.{Begun}
 use Rattle.dvvstore.specs.declared.keeper.Unbegun.{Unbegun}
 use Rattle.dvvstore.specs.declared.session.Left.{Left}
 use Rattle.dvvstore.specs.declared.session.Left.TheVariants.{Kept, Lost}
@@ -57,23 +62,43 @@ starts_as takes held other starts now is are = subst (λ (h : Option (List ℕ))
 module _ {H : Type 0} (finds : H → List ℕ → ImageKind → Result (Option Program) NotSeen → H → Type 0)
     (names : H → List ℕ → ImageKind → Result (Option (List ℕ)) NameFault → H → Type 0) (takes : H → Change → Result Unit HookFault → H → Type 0) where
   -- where vnodes are left, they are left so
-  pub served_so : {E : Type 0} → (vnodes : ℕ) (Begins : List (StoreView Passing H) → Type 0) (served : Result Served E) → IfOk served (HasServed finds names takes vnodes Begins) → LeavesServed finds names takes vnodes Begins (left_as served)
-  served_so vnodes Begins (Ok served) so = so
-  served_so vnodes Begins (Err why) so = tt
+  pub served_so : {E : Type 0} → (fronts : List ℕ) (vnodes : ℕ) (Begins : List (StoreView Passing H) → Type 0) (served : Result Served E) → IfOk served (HasServed finds names takes fronts vnodes Begins)
+      → LeavesServed finds names takes fronts vnodes Begins (left_as served)
+  served_so fronts vnodes Begins (Ok served) so = so
+  served_so fronts vnodes Begins (Err why) so = tt
 
   -- what a crew leaves
-  pub served_from : {E : Type 0} → (held : Option (List ℕ)) (starts now : List (StoreView Passing H)) (id vnodes : ℕ) (spares : List View) (served : Result Served E) → AreStarts takes held starts now
-      → IfOk served (λ s. AfterAnswers finds names takes now s.closed.vnodes.items (λ told. AreGathered id told spares s.closed.vnodes.items) × (vec_len s.closed.vnodes ≡ vnodes))
-      → IfOk served (HasServed finds names takes vnodes (AreStarts takes held starts))
-  served_from held starts now id vnodes spares (Ok s) are (kept, many) = (now, are, visits_gathered finds names takes now id spares s.closed.vnodes.items kept, many)
-  served_from held starts now id vnodes spares (Err why) are so = so
+  pub served_from : {F B E : Type 0} → (held : Option (List ℕ)) (starts now : List (StoreView Passing H)) (folder : Option F) (id vnodes : ℕ) (files : List KeptFile) (begun : Begun B) (served : Result Served E) → AreStarts takes held starts now
+      → HasBegunWith folder id vnodes files begun → length begun.spares.items ≡ vnodes
+      → IfOk served (λ s. AfterAnswers finds names takes (AreBrought begun.spares.items s.closed.vnodes.items) now s.closed.vnodes.items (λ told. AreGathered id told begun.spares.items s.closed.vnodes.items) × (vec_len s.closed.vnodes ≡ vnodes))
+      → IfOk served (λ s. IfOk s.closed.said (λ all. AreNumbered id s.closed.vnodes.items))
+      → IfOk served (HasServed finds names takes (fronts_for folder vnodes files) vnodes (AreStarts takes held starts))
+  served_from held starts now folder id vnodes files begun (Ok s) are (fresh, loaded, spared, fronts, number) as_many (kept, many) numbered =
+      let logs = s.closed.vnodes.items in
+      let spares = begun.spares.items in
+      let Goes = GoesFrom (fronts_for folder vnodes files) s.closed.said in
+      let tell = answers_as finds names takes (AreBrought spares logs) Goes (fronts_made folder id vnodes files fresh spares logs loaded as_many s.closed.said numbered) now logs (λ told. AreGathered id told spares logs) kept in
+      (now, are, visits_gathered finds names takes Goes now id spares logs tell, many)
+  served_from held starts now folder id vnodes files begun (Err why) are has as_many so numbered = so
 
   -- the same of stores of which more is known
-  pub served_as : (vnodes : ℕ) (Begins Are : List (StoreView Passing H) → Type 0) (left : Result Left Unbegun) → ((starts : List (StoreView Passing H)) → Begins starts → Are starts)
-      → LeavesServed finds names takes vnodes Begins left → LeavesServed finds names takes vnodes Are left
-  served_as vnodes Begins Are (Ok (Kept served)) f (starts, begins, visits, many) = (starts, f starts begins, visits, many)
-  served_as vnodes Begins Are (Ok Lost) f so = so
-  served_as vnodes Begins Are (Err why) f so = so
+  pub served_as : (fronts : List ℕ) (vnodes : ℕ) (Begins Are : List (StoreView Passing H) → Type 0) (left : Result Left Unbegun) → ((starts : List (StoreView Passing H)) → Begins starts → Are starts)
+      → LeavesServed finds names takes fronts vnodes Begins left → LeavesServed finds names takes fronts vnodes Are left
+  served_as fronts vnodes Begins Are (Ok (Kept served)) f (starts, begins, visits, many) = (starts, f starts begins, visits, many)
+  served_as fronts vnodes Begins Are (Ok Lost) f so = so
+  served_as fronts vnodes Begins Are (Err why) f so = so
+
+  -- what begins with files whose keys are folded leaves what the folder held so
+  pub leaves_folded : {F : Type 0} → (folder kept : Option F) (first number vnodes : ℕ) (held files : List KeptFile) (Begins : List (StoreView Passing H) → Type 0) (left : Result Left Unbegun) → number ≡ first / 256 → kept ≡ folder
+      → AreFolded number held files → Leaves kept first vnodes files left → LeavesServed finds names takes (fronts_for kept vnodes files) vnodes Begins left → LeavesFolded finds names takes folder first vnodes held Begins left
+  leaves_folded folder kept first number vnodes held files Begins (Ok (Kept served)) is same fold so serves = (
+    files,
+    subst (λ (n : ℕ). AreFolded n held files) is fold,
+    subst (λ f. IsLeftFrom f first vnodes files served) same so,
+    subst (λ f. HasServed finds names takes (fronts_for f vnodes files) vnodes Begins served) same serves,
+  )
+  leaves_folded folder kept first number vnodes held files Begins (Ok Lost) is same fold so serves = tt
+  leaves_folded folder kept first number vnodes held files Begins (Err why) is same fold so serves = tt
 
 -- ---- which stores these are
 

@@ -1,5 +1,5 @@
 -- What is left of a store, said of the same numbers and files.
-use Rattle.std.proofs.Common.{◌≡◌, ◌∙◌, ◌+◌, ◌/◌, ◌<◌, ◌++◌, ℕ, zero, suc, List, Option, Result, Ok, Err, IfOk, [], ◌∷◌, arith, subst, sym}
+use Rattle.std.proofs.Common.{◌≡◌, ◌∙◌, ◌+◌, ◌<◌, ◌++◌, ℕ, zero, suc, List, Option, Result, Ok, Err, IfOk, [], ◌∷◌, arith, subst, sym}
 use Rattle.std.specs.List.{All}
 use Rattle.std.specs.Prelude.{IsErrAnd}
 use Rattle.std.proofs.lemmas.List.{get_or_append_left, length-append}
@@ -7,14 +7,13 @@ use Rattle.kept_file.specs.declared.file.KeptFile.{KeptFile}
 use Rattle.journal.specs.Logs.{Log}
 use Rattle.cluster_stamps.specs.declared.view.View.{View}
 use Rattle.cluster_vnode.specs.Calls.{pass_view}
-use Rattle.kept_fold.specs.Folds.{AreFolded}
 use Rattle.kept_restore.specs.Beginnings.{BeginWithFiles, HaveLoaded}
 use Rattle.audit_cluster.specs.Following.{IsSaidOf}
 use Rattle.commands.specs.Command.{HasRefused}
 use Rattle.commands.specs.declared.server.Unserved.{Unserved}
 use Rattle.commands.specs.declared.server.Unserved.TheVariants.{Refused}
 use Rattle.commands.specs.declared.server.Unserved.TheVariants as unserved
-use Rattle.dvvstore.specs.Keeping.{HasBegun, IsLeftFrom, IsRefusal, Leaves, LeavesFolded, Tells, TellsBeginning, TellsNothing, fronts_for, left_as}
+use Rattle.dvvstore.specs.Keeping.{HasBegun, IsLeftFrom, IsRefusal, Leaves, Tells, TellsBeginning, TellsNothing, fronts_for, left_as}
 use Rattle.dvvstore.specs.declared.crew.running.Served.{Served}
 use Rattle.dvvstore.specs.declared.keeper.Address.{Address}
 use Rattle.dvvstore.specs.declared.keeper.Door.{Door}
@@ -22,7 +21,6 @@ use Rattle.dvvstore.specs.declared.keeper.Door.TheVariants as door
 use Rattle.dvvstore.specs.declared.keeper.Unbegun.{Unbegun}
 use Rattle.dvvstore.specs.declared.keeper.Unbegun.TheVariants.{Records, Hooks, Unreadable, NoMemory}
 use Rattle.dvvstore.specs.declared.session.Left.{Left}
-use Rattle.dvvstore.specs.declared.session.Left.TheVariants.{Kept, Lost}
 
 pub leaves_as : {F : Type 0} → (folder : Option F) (first number many vnodes : ℕ) (files : List KeptFile) (left : Result Left Unbegun) → first ≡ number → many ≡ vnodes
     → Leaves folder first many files left → Leaves folder number vnodes files left
@@ -34,14 +32,6 @@ pub loaded_as : (id first : ℕ) (files held : List KeptFile) (olds news passes 
 loaded_as id first files held olds news passes is same back loaded =
     subst (λ (n : ℕ). HaveLoaded n 0 held olds passes) is
     (subst (λ (fs : List KeptFile). HaveLoaded id 0 fs olds passes) same (subst (λ (ps : List View). HaveLoaded id 0 files olds ps) (sym back) loaded))
-
--- what begins with files whose keys are folded leaves what the folder held so
-pub leaves_folded : {F : Type 0} → (folder kept : Option F) (first number vnodes : ℕ) (held files : List KeptFile) (left : Result Left Unbegun) → number ≡ first / 256 → kept ≡ folder → AreFolded number held files
-    → Leaves kept first vnodes files left → LeavesFolded folder first vnodes held left
-leaves_folded folder kept first number vnodes held files (Ok (Kept served)) is same fold so =
-    (files, subst (λ (n : ℕ). AreFolded n held files) is fold, subst (λ f. IsLeftFrom f first vnodes files served) same so)
-leaves_folded folder kept first number vnodes held files (Ok Lost) is same fold so = tt
-leaves_folded folder kept first number vnodes held files (Err why) is same fold so = tt
 
 -- of passes that were told nothing those before the last were told nothing, either
 pub fresh_before : (passes rest : List View) (pass : View) → All (λ (p : View). p ≡ pass_view 0 []) passes → passes ≡ rest ++ pass ∷ [] → All (λ (p : View). p ≡ pass_view 0 []) rest

@@ -19,8 +19,7 @@ use Rattle.http_connections.specs.declared.seat.Seat.{Seat}
 use Rattle.http_connections.proofs.LogLemmas.{all_parts-both}
 use Rattle.http_connections.proofs.TalkLemmas.{Runs-append}
 use Rattle.journal.specs.Logs.{Log as JournalLog}
-use Rattle.audit_cluster.specs.Moments.{HappenFrom}
-use Rattle.audit_replay.specs.Interleaved.{IsInterleaving}
+use Rattle.audit_cluster.specs.Moments.{AreMadeBy, HappenBehind}
 use Rattle.server_accept.specs.Waiting.{HasHadNone}
 use Rattle.ring.specs.Places.{PlacementView, copies_in}
 use Rattle.server_sockets.specs.Work.{Stays, Works, seats_of, shows}
@@ -38,8 +37,9 @@ use Rattle.kept_restore.specs.Beginnings.{BeginWithFiles, BeginsWith}
 use Rattle.kept_restore.specs.Loads.{HasLoaded}
 use Rattle.record_codec.specs.declared.record.Record.{Record}
 use Rattle.dvvstore.proofs.Among.{LoadsStand, all_begin, all_told}
+use Rattle.dvvstore.proofs.Fronts.{brought_among, none_made}
 use Rattle.server_receipts.specs.Receipts.{AreToldBy}
-use Rattle.dvvstore.specs.Asides.{AreGathered, WithAsides}
+use Rattle.dvvstore.specs.Asides.{AreBrought, AreGathered, WithAsides}
 use Rattle.dvvstore.specs.Keeping.{HasBegunWith}
 use Rattle.dvvstore.specs.declared.crew.running.Served.{Served}
 use Rattle.dvvstore.specs.declared.keeper.Begun.{Begun}
@@ -179,15 +179,15 @@ module _ {H : Type 0} (finds : H → List ℕ → ImageKind → Result (Option P
 
 -- what spare passes had been told stands among it
 pub gathered_after : {H : Type 0} (finds : H → List ℕ → ImageKind → Result (Option Program) NotSeen → H → Type 0) (names : H → List ℕ → ImageKind → Result (Option (List ℕ)) NameFault → H → Type 0)
-    (takes : H → Change → Result Unit HookFault → H → Type 0) (starts : List (StoreView Passing H)) (id : ℕ) (spares : List View) (logs : List JournalLog)
-    → AfterAnswers finds names takes starts logs (λ told. AreGathered id told spares logs) → (told : List Told) × AreGathered id told spares logs
-gathered_after finds names takes starts id spares logs (calls, visits, gathered, tell) = (told_with starts calls, gathered)
+    (takes : H → Change → Result Unit HookFault → H → Type 0) (GoesOn : List ℕ → Type 0) (starts : List (StoreView Passing H)) (id : ℕ) (spares : List View) (logs : List JournalLog)
+    → AfterAnswers finds names takes GoesOn starts logs (λ told. AreGathered id told spares logs) → (told : List Told) × AreGathered id told spares logs
+gathered_after finds names takes GoesOn starts id spares logs (calls, visits, gathered, tell) = (told_with starts calls, gathered)
 
 -- what the workers were told stands among it
 pub visits_gathered : {H : Type 0} (finds : H → List ℕ → ImageKind → Result (Option Program) NotSeen → H → Type 0) (names : H → List ℕ → ImageKind → Result (Option (List ℕ)) NameFault → H → Type 0)
-    (takes : H → Change → Result Unit HookFault → H → Type 0) (starts : List (StoreView Passing H)) (id : ℕ) (spares : List View) (logs : List JournalLog)
-    → AfterAnswers finds names takes starts logs (λ told. AreGathered id told spares logs) → AfterAnswers finds names takes starts logs (λ told. HasAll told logs)
-visits_gathered finds names takes starts id spares logs (calls, visits, (spare, watched, spared, its, gathered), tell) = (calls, visits, (spare ++ watched, gathered), tell)
+    (takes : H → Change → Result Unit HookFault → H → Type 0) (GoesOn : List ℕ → Type 0) (starts : List (StoreView Passing H)) (id : ℕ) (spares : List View) (logs : List JournalLog)
+    → AfterAnswers finds names takes GoesOn starts logs (λ told. AreGathered id told spares logs) → AfterAnswers finds names takes GoesOn starts logs (λ told. HasAll told logs)
+visits_gathered finds names takes GoesOn starts id spares logs (calls, visits, (spare, watched, spared, its, gathered), tell) = (calls, visits, (spare ++ watched, gathered), tell)
 
 -- what holds of an answer, by what two clauses say of it
 pub if_both : {T E : Type 0} (r : Result T E) (P Q R : T → Type 0) → ((v : T) → P v → Q v → R v) → IfOk r P → IfOk r Q → IfOk r R
@@ -198,58 +198,72 @@ if_both (Err e) P Q R f p q = p
 pub begins_from : {H F B E : Type 0} (finds : H → List ℕ → ImageKind → Result (Option Program) NotSeen → H → Type 0) (names : H → List ℕ → ImageKind → Result (Option (List ℕ)) NameFault → H → Type 0)
     (takes : H → Change → Result Unit HookFault → H → Type 0) (starts : List (StoreView Passing H)) (folder : Option F) (first vnodes : ℕ) (files : List KeptFile) (begun : Begun B) (served : Result Served E) (More : Served → Type 0)
     → LoadsStand → HasBegunWith folder first vnodes files begun → length begun.spares.items ≡ vnodes
-    → IfOk served (λ s. AfterAnswers finds names takes starts s.closed.vnodes.items (λ told. AreGathered first told begun.spares.items s.closed.vnodes.items) × More s)
+    → IfOk served (λ s. AfterAnswers finds names takes (AreBrought begun.spares.items s.closed.vnodes.items) starts s.closed.vnodes.items (λ told. AreGathered first told begun.spares.items s.closed.vnodes.items) × More s)
     → IfOk served (λ s. BeginWithFiles s.closed.vnodes.items first files vnodes)
 begins_from finds names takes starts folder first vnodes files begun (Err why) More stand has many kept = kept
 begins_from finds names takes starts folder first vnodes files begun (Ok s) More stand (fresh, loaded, spared, fronts, number) many kept =
     let logs = s.closed.vnodes.items in
-    let found = gathered_after finds names takes starts first begun.spares.items logs kept.0 in
+    let found = gathered_after finds names takes (AreBrought begun.spares.items logs) starts first begun.spares.items logs kept.0 in
     all_begin stand logs files first vnodes found.0 fresh begun.spares.items many loaded found.1
 
 -- ---- what answers tell
 
 module _ {H : Type 0} (finds : H → List ℕ → ImageKind → Result (Option Program) NotSeen → H → Type 0)
-    (names : H → List ℕ → ImageKind → Result (Option (List ℕ)) NameFault → H → Type 0) (takes : H → Change → Result Unit HookFault → H → Type 0)
-    (law : (told : List Told) (logs : List JournalLog) → IsGathered told logs → (start end : StoreView Passing H) (xs : List Exchange) (owns : List (List Told))
-    → AreCallsOf (GivesUnnoted PassCalls finds names takes) told_by start xs owns end → ((t : Told) → Contains (all_calls owns) t → Contains told t) → AreToldBy finds names takes logs start xs owns end)
-    (moments : (told : List Told) (logs : List JournalLog) → IsGathered told logs → (run : IsInterleaving logs) (start end : StoreView Passing H) (xs : List Exchange) (owns : List (List Told))
-    → AreToldBy finds names takes logs start xs owns end → ((t : Told) → Contains (all_calls owns) t → Contains told t) → HappenFrom run 0 (all_calls owns)) where
-  -- where the calls of a visit stand among what was gathered, its answers tell of the journals
-  tells : (all : List Told) (logs : List JournalLog) → IsGathered all logs → (start : StoreView Passing H) (calls : List Told) (visit : IsVisit finds names takes start calls)
-      → ((t : Told) → Contains (all_calls visit.owns) t → Contains all t) → TellsOf finds names takes logs start calls visit
-  tells all logs gathered start calls visit within =
-      let told = law all logs gathered start visit.end (all_parts visit.log) visit.owns visit.made within in
-      (told, λ run. moments all logs gathered run start visit.end (all_parts visit.log) visit.owns told within)
+    (names : H → List ℕ → ImageKind → Result (Option (List ℕ)) NameFault → H → Type 0) (takes : H → Change → Result Unit HookFault → H → Type 0) where
+  -- so it is of runs that go on from fewer fronts
+  pub all_tell_as : (GoesOn Goes : List ℕ → Type 0) → ((fronts : List ℕ) → Goes fronts → GoesOn fronts) → (logs : List JournalLog) (starts : List (StoreView Passing H)) (calls : List (List Told)) (visits : AreVisits finds names takes starts calls)
+      → AllTellOf finds names takes GoesOn logs starts calls visits → AllTellOf finds names takes Goes logs starts calls visits
+  all_tell_as GoesOn Goes fewer logs [] [] visits all = tt
+  all_tell_as GoesOn Goes fewer logs [] (calls ∷ rest) none all = absurd none
+  all_tell_as GoesOn Goes fewer logs (start ∷ starts) [] none all = absurd none
+  all_tell_as GoesOn Goes fewer logs (start ∷ starts) (calls ∷ rest) (visit, visits) ((told, happen), all) =
+      ((told, λ fronts goes. happen fronts (fewer fronts goes)), all_tell_as GoesOn Goes fewer logs starts rest visits all)
 
-  -- where the calls of all visits stand among what was gathered, all answers tell of the journals
-  all_tell : (all : List Told) (logs : List JournalLog) → IsGathered all logs → (starts : List (StoreView Passing H)) (calls : List (List Told)) (visits : AreVisits finds names takes starts calls)
-      → ((t : Told) → Contains (told_with starts calls) t → Contains all t) → AllTellOf finds names takes logs starts calls visits
-  all_tell all logs gathered [] [] visits within = tt
-  all_tell all logs gathered [] (calls ∷ rest) none within = absurd none
-  all_tell all logs gathered (start ∷ starts) [] none within = absurd none
-  all_tell all logs gathered (start ∷ starts) (calls ∷ rest) (visit, visits) within = (
-    tells all logs gathered start calls visit (λ t c.
-        within t (Contains-append_left (told_by start ++ calls) (told_with starts rest) t (Contains-append_right (told_by start) calls t (subst (λ (l : List Told). Contains l t) (sym visit.all) c)))),
-    all_tell all logs gathered starts rest visits (λ t c. within t (Contains-append_right (told_by start ++ calls) (told_with starts rest) t c)),
-  )
+  pub answers_as : (GoesOn Goes : List ℕ → Type 0) → ((fronts : List ℕ) → Goes fronts → GoesOn fronts) → (starts : List (StoreView Passing H)) (logs : List JournalLog) (Says : List Told → Type 0)
+      → AfterAnswers finds names takes GoesOn starts logs Says → AfterAnswers finds names takes Goes starts logs Says
+  answers_as GoesOn Goes fewer starts logs Says (calls, visits, says, tell) = (calls, visits, says, all_tell_as GoesOn Goes fewer logs starts calls visits tell)
 
-  -- so they do of the journals that are left
-  pub answers_after : (starts : List (StoreView Passing H)) (id : ℕ) (spares : List View) (logs : List JournalLog) (calls : List (List Told)) (visits : AreVisits finds names takes starts calls)
-      → AreGathered id (told_with starts calls) spares logs → AfterAnswers finds names takes starts logs (λ told. AreGathered id told spares logs)
-  answers_after starts id spares logs calls visits (spare, watched, spared, its, gathered) = (
-    calls,
-    visits,
-    (spare, watched, spared, its, gathered),
-    all_tell (told_with starts calls ++ (spare ++ watched)) logs gathered starts calls visits (λ t c. Contains-append_left (told_with starts calls) (spare ++ watched) t c),
-  )
+  module _ (law : (told : List Told) (logs : List JournalLog) → IsGathered told logs → (start end : StoreView Passing H) (xs : List Exchange) (owns : List (List Told))
+      → AreCallsOf (GivesUnnoted PassCalls finds names takes) told_by start xs owns end → ((t : Told) → Contains (all_calls owns) t → Contains told t) → AreToldBy finds names takes logs start xs owns end)
+      (behind : (told others : List Told) (logs : List JournalLog) → IsGathered (told ++ others) logs → (fronts : List ℕ) → AreMadeBy others fronts logs → (start end : StoreView Passing H) (xs : List Exchange) (owns : List (List Told))
+      → AreToldBy finds names takes logs start xs owns end → ((t : Told) → Contains (all_calls owns) t → Contains told t) → HappenBehind fronts logs (all_calls owns)) where
+    -- where the calls of a visit stand among what was gathered, and others made the fronts, its answers tell of the journals
+    tells : (told others : List Told) (logs : List JournalLog) → IsGathered (told ++ others) logs → (GoesOn : List ℕ → Type 0) → ((fronts : List ℕ) → GoesOn fronts → AreMadeBy others fronts logs)
+        → (start : StoreView Passing H) (calls : List Told) (visit : IsVisit finds names takes start calls) → ((t : Told) → Contains (all_calls visit.owns) t → Contains told t) → TellsOf finds names takes GoesOn logs start calls visit
+    tells told others logs gathered GoesOn made start calls visit within =
+        let tell = law (told ++ others) logs gathered start visit.end (all_parts visit.log) visit.owns visit.made (λ t c. Contains-append_left told others t (within t c)) in
+        (tell, λ fronts goes. behind told others logs gathered fronts (made fronts goes) start visit.end (all_parts visit.log) visit.owns tell within)
 
-  -- and of whatever journals hold all that was told
-  pub answers_of : (starts : List (StoreView Passing H)) (id : ℕ) (spares : List View) (Says : List Told → Type 0) (calls : List (List Told)) (visits : AreVisits finds names takes starts calls)
-      → WithAsides id spares Says (told_with starts calls) → AfterAnswersOf finds names takes starts (λ told all. WithAsides id spares (λ these. (these ≡ all) × Says all) told)
-  answers_of starts id spares Says calls visits (spare, watched, spared, its, says) = (
-    calls,
-    visits,
-    told_with starts calls ++ (spare ++ watched),
-    (spare, watched, spared, its, (refl, says)),
-    λ logs gathered. all_tell (told_with starts calls ++ (spare ++ watched)) logs gathered starts calls visits (λ t c. Contains-append_left (told_with starts calls) (spare ++ watched) t c),
-  )
+    -- where the calls of all visits do, all answers tell of the journals
+    all_tell : (told others : List Told) (logs : List JournalLog) → IsGathered (told ++ others) logs → (GoesOn : List ℕ → Type 0) → ((fronts : List ℕ) → GoesOn fronts → AreMadeBy others fronts logs)
+        → (starts : List (StoreView Passing H)) (calls : List (List Told)) (visits : AreVisits finds names takes starts calls) → ((t : Told) → Contains (told_with starts calls) t → Contains told t)
+        → AllTellOf finds names takes GoesOn logs starts calls visits
+    all_tell told others logs gathered GoesOn made [] [] visits within = tt
+    all_tell told others logs gathered GoesOn made [] (calls ∷ rest) none within = absurd none
+    all_tell told others logs gathered GoesOn made (start ∷ starts) [] none within = absurd none
+    all_tell told others logs gathered GoesOn made (start ∷ starts) (calls ∷ rest) (visit, visits) within = (
+      tells told others logs gathered GoesOn made start calls visit (λ t c.
+          within t (Contains-append_left (told_by start ++ calls) (told_with starts rest) t (Contains-append_right (told_by start) calls t (subst (λ (l : List Told). Contains l t) (sym visit.all) c)))),
+      all_tell told others logs gathered GoesOn made starts rest visits (λ t c. within t (Contains-append_right (told_by start ++ calls) (told_with starts rest) t c)),
+    )
+
+    -- so they do of the journals that are left
+    pub answers_after : (starts : List (StoreView Passing H)) (id : ℕ) (spares : List View) (logs : List JournalLog) (calls : List (List Told)) (visits : AreVisits finds names takes starts calls)
+        → AreGathered id (told_with starts calls) spares logs → AfterAnswers finds names takes (AreBrought spares logs) starts logs (λ told. AreGathered id told spares logs)
+    answers_after starts id spares logs calls visits (spare, watched, spared, its, gathered) = (
+      calls,
+      visits,
+      (spare, watched, spared, its, gathered),
+      all_tell (told_with starts calls) (spare ++ watched) logs gathered (AreBrought spares logs) (brought_among id spares spare watched logs spared) starts calls visits (λ t c. c),
+    )
+
+    -- and of whatever journals hold all that was told
+    pub answers_of : (starts : List (StoreView Passing H)) (id : ℕ) (spares : List View) (Says : List Told → Type 0) (calls : List (List Told)) (visits : AreVisits finds names takes starts calls)
+        → WithAsides id spares Says (told_with starts calls) → AfterAnswersOf finds names takes starts (λ told all. WithAsides id spares (λ these. (these ≡ all) × Says all) told)
+    answers_of starts id spares Says calls visits (spare, watched, spared, its, says) = (
+      calls,
+      visits,
+      told_with starts calls ++ (spare ++ watched),
+      (spare, watched, spared, its, (refl, says)),
+      λ logs gathered. all_tell (told_with starts calls) (spare ++ watched) logs gathered (λ fronts. fronts ≡ []) (none_made (spare ++ watched) logs) starts calls visits (λ t c. c),
+    )

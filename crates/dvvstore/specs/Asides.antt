@@ -1,5 +1,5 @@
 -- What is done beside workers.
-use Rattle.std.specs.Prelude.{◌≡◌, ◌+◌, ◌-◌, ◌/◌, ◌^◌, ◌++◌, ◌∷◌, ℕ, All, List, [], length, min, sum, MatchOption, Option, Result, Ok, codes, true}
+use Rattle.std.specs.Prelude.{◌≡◌, ◌+◌, ◌-◌, ◌/◌, ◌^◌, ◌++◌, ◌∷◌, ℕ, All, List, [], flat_map, length, min, sum, MatchOption, Option, Result, Ok, codes, true}
 use Rattle.journal.specs.Logs.{Log}
 use Rattle.key_state.specs.declared.content.Key.{Key}
 use Rattle.record_codec.specs.declared.record.Record.{Record}
@@ -12,6 +12,7 @@ use Rattle.cluster_stamps.specs.declared.view.Told.{Told}
 use Rattle.cluster_stamps.specs.declared.view.View.{View}
 use Rattle.cluster_vnode.specs.Gathers.{IsGathered}
 use Rattle.audit_cluster.specs.Following.{IsOfWatch}
+use Rattle.audit_cluster.specs.Moments.{AreMadeBy}
 use Rattle.kept_file.specs.Files.{IsFileOf}
 use Rattle.kept_folder.specs.Numbers.{number_text}
 use Rattle.kept_folder.specs.Reads.{name_of}
@@ -48,6 +49,10 @@ WithAsides first spares Says told = (spared watched : List Told) × AreSpared fi
 -- all that is gathered in these journals, each of it once
 abbrev pub AreGathered : ℕ → List Told → List View → List Log → Type 0
 AreGathered first told spares logs = WithAsides first spares (λ all. IsGathered all logs) told
+
+-- the entries of these fronts of journals were made by calls of which spare passes had been told
+abbrev pub AreBrought : List View → List Log → List ℕ → Type 0
+AreBrought spares logs fronts = AreMadeBy (flat_map (λ p. p.told) spares) fronts logs
 
 -- ---- snapshots
 

@@ -1,5 +1,5 @@
 -- What stands on the output when a store that is kept has ended (this store's profile).
-use Rattle.std.specs.Prelude.{◌≡◌, ◌/◌, ◌++◌, ◌∷◌, ℕ, List, [], Option, Some, None, Result, Ok, Err, true, codes, decimal, vec_len}
+use Rattle.std.specs.Prelude.{◌≡◌, ◌⊎◌, ◌/◌, ◌++◌, ◌∷◌, ℕ, List, [], Option, Some, None, Result, Ok, Err, true, codes, decimal, vec_len}
 use Rattle.bpf_image.specs.declared.image.ImageKind.{ImageKind}
 use Rattle.bpf_verifier.specs.Program.{Program}
 use Rattle.hook_registry.specs.Changes.{Change}
@@ -12,6 +12,7 @@ use Rattle.commands.specs.Outcome.{line}
 use Rattle.commands.specs.declared.server.Ended.{Ended}
 use Rattle.commands.specs.declared.server.Ended.TheVariants as ended
 use Rattle.audit_cluster.specs.Following.{IsSaidOf}
+use Rattle.audit_faults.specs.declared.fault.WatchFault.{WatchFault}
 use Rattle.kept_file.specs.declared.file.KeptFile.{KeptFile}
 use Rattle.kept_fold.specs.Folds.{AreFolded}
 use Rattle.kept_folder.specs.Seals.{sealed}
@@ -102,29 +103,37 @@ Leaves folder first vnodes files (Ok (Kept served)) = IsLeftFrom folder first vn
 Leaves folder first vnodes files (Ok Lost) = Unit {0}
 Leaves folder first vnodes files (Err why) = Unit {0}
 
--- the same of what a folder held: the start that those numbers belong to has folded its keys
-abbrev pub IsLeftFolded : {F : Type 0} → Option F → ℕ → ℕ → List KeptFile → Served → Type 0
-IsLeftFolded folder first vnodes held served = (files : List KeptFile) × AreFolded (first / 256) held files × IsLeftFrom folder first vnodes files served
-
-abbrev pub LeavesFolded : {F : Type 0} → Option F → ℕ → ℕ → List KeptFile → Result Left Unbegun → Type 0
-LeavesFolded folder first vnodes held (Ok (Kept served)) = IsLeftFolded folder first vnodes held served
-LeavesFolded folder first vnodes held (Ok Lost) = Unit {0}
-LeavesFolded folder first vnodes held (Err why) = Unit {0}
+-- a run of journals goes on from nothing, and where a yes is said of them from these fronts
+abbrev pub GoesFrom : List ℕ → Result (Unit {0}) WatchFault → List ℕ → Type 0
+GoesFrom fronts (Ok all) begun = (begun ≡ []) ⊎ (begun ≡ fronts)
+GoesFrom fronts (Err why) begun = begun ≡ []
 
 module _ {H : Type 0} (finds : H → List ℕ → ImageKind → Result (Option Program) NotSeen → H → Type 0)
     (names : H → List ℕ → ImageKind → Result (Option (List ℕ)) NameFault → H → Type 0) (takes : H → Change → Result Unit HookFault → H → Type 0) where
   -- What is left of a store whose workers began so: each had its visit, in the journals of so many vnodes stands what they were told, each of it once, and each of their
-  -- answers tells of these journals.
-  abbrev pub HasServed : ℕ → (List (StoreView Passing H) → Type 0) → Served → Type 0
-  HasServed vnodes Begins served =
-      (starts : List (StoreView Passing H)) × Begins starts × AfterAnswers finds names takes starts served.closed.vnodes.items (λ told. HasAll told served.closed.vnodes.items)
+  -- answers tells of these journals, and of the run that they are from the fronts on.
+  abbrev pub HasServed : List ℕ → ℕ → (List (StoreView Passing H) → Type 0) → Served → Type 0
+  HasServed fronts vnodes Begins served =
+      (starts : List (StoreView Passing H)) × Begins starts
+      × AfterAnswers finds names takes (GoesFrom fronts served.closed.said) starts served.closed.vnodes.items (λ told. HasAll told served.closed.vnodes.items)
       × (vec_len served.closed.vnodes ≡ vnodes)
 
   -- so it is, where vnodes are left
-  abbrev pub LeavesServed : ℕ → (List (StoreView Passing H) → Type 0) → Result Left Unbegun → Type 0
-  LeavesServed vnodes Begins (Ok (Kept served)) = HasServed vnodes Begins served
-  LeavesServed vnodes Begins (Ok Lost) = Unit {0}
-  LeavesServed vnodes Begins (Err why) = Unit {0}
+  abbrev pub LeavesServed : List ℕ → ℕ → (List (StoreView Passing H) → Type 0) → Result Left Unbegun → Type 0
+  LeavesServed fronts vnodes Begins (Ok (Kept served)) = HasServed fronts vnodes Begins served
+  LeavesServed fronts vnodes Begins (Ok Lost) = Unit {0}
+  LeavesServed fronts vnodes Begins (Err why) = Unit {0}
+
+  -- The same of what a folder held: the start that those numbers belong to has folded its keys, the journals begin with what came of that, and its workers, who began
+  -- so, have served from there on.
+  abbrev pub IsLeftFolded : {F : Type 0} → Option F → ℕ → ℕ → List KeptFile → (List (StoreView Passing H) → Type 0) → Served → Type 0
+  IsLeftFolded folder first vnodes held Begins served =
+      (files : List KeptFile) × AreFolded (first / 256) held files × IsLeftFrom folder first vnodes files served × HasServed (fronts_for folder vnodes files) vnodes Begins served
+
+  abbrev pub LeavesFolded : {F : Type 0} → Option F → ℕ → ℕ → List KeptFile → (List (StoreView Passing H) → Type 0) → Result Left Unbegun → Type 0
+  LeavesFolded folder first vnodes held Begins (Ok (Kept served)) = IsLeftFolded folder first vnodes held Begins served
+  LeavesFolded folder first vnodes held Begins (Ok Lost) = Unit {0}
+  LeavesFolded folder first vnodes held Begins (Err why) = Unit {0}
 
 -- ---- what a stop writes
 

@@ -17,7 +17,7 @@ use Rattle.kept_folder.specs.Settings.{IsSetBy}
 use Rattle.kept_folder.specs.Steps.{IsPut, Step}
 use Rattle.kept_folder.specs.declared.opening.Opened.{Opened}
 use Rattle.dvvstore.specs.Crews.{by_digest}
-use Rattle.dvvstore.specs.Keeping.{ArePutOf, HasServed, IsLeftFolded}
+use Rattle.dvvstore.specs.Keeping.{ArePutOf, IsLeftFolded}
 use Rattle.dvvstore.specs.Visits.{BeginOver}
 use Rattle.dvvstore.specs.declared.crew.running.Served.{Served}
 use Rattle.dvvstore.specs.declared.network.Said.{Said}
@@ -41,8 +41,9 @@ module _ {F : Type 0} (finds : F → List ℕ → Option (List ℕ) → Type 0) 
     pub put : IsPut does old (codes "incarnation") (sealed (number_text opened.number)) mid
 
   -- A store was kept in a folder. Its start read what the folder held, and so many vnodes, whose identifiers have the start's number, began with all of it, placed and
-  -- folded: the journals that are left begin with that, and hold what workers with these tables were told from then on. Of these vnodes each file was put, and the
-  -- requests that make their hooks what they are, and of their journals is said what is said.
+  -- folded: the journals that are left begin with that, and hold what workers with these tables were told from then on, whose calls are steps of the run that goes on
+  -- from there, where a yes is said. Of these vnodes each file was put, and the requests that make their hooks what they are, and of their journals is said what is
+  -- said.
   pub record IsKeptOver (minute : ℕ) (tables : List (List Entry)) (old new : F) (said : Verdict) : Type 0 where
     pub opened : Opened
     pub mid : F
@@ -54,8 +55,7 @@ module _ {F : Type 0} (finds : F → List ℕ → Option (List ℕ) → Type 0) 
     pub placed : List KeptFile
     pub places : ArePlaced (by_digest size.vnodes opened.held.settings.copies) opened.held.files.items placed
     pub served : Served
-    pub begins : IsLeftFolded (Some mid) size.first size.vnodes placed served
-    pub serves : HasServed Finds Names Takes size.vnodes (BeginOver Takes size opened.held.settings.copies tables (Some opened.held.hooks.items)) served
+    pub begins : IsLeftFolded Finds Names Takes (Some mid) size.first size.vnodes placed (BeginOver Takes size opened.held.settings.copies tables (Some opened.held.hooks.items)) served
     pub puts : ArePutOf finds does opened.number served.closed.vnodes.items served.requests mid new
     pub says : said ≡ served.closed.said
 

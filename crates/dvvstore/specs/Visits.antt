@@ -17,8 +17,7 @@ use Rattle.http_connections.specs.Halls.{AllStand, HallStands, Log, all_parts}
 use Rattle.http_connections.specs.Sockets.{Sockets}
 use Rattle.http_connections.specs.declared.seat.Seat.{Seat}
 use Rattle.journal.specs.Logs.{Log as JournalLog}
-use Rattle.audit_cluster.specs.Moments.{HappenFrom}
-use Rattle.audit_replay.specs.Interleaved.{IsInterleaving}
+use Rattle.audit_cluster.specs.Moments.{HappenBehind}
 use Rattle.ring.specs.Places.{PlacementView, copies_in}
 use Rattle.server_sockets.specs.Work.{seats_of, shows}
 use Rattle.server_sockets.specs.declared.worker.Worker.{Worker}
@@ -123,27 +122,27 @@ module _ {H : Type 0} (finds : H → List ℕ → ImageKind → Result (Option P
   HaveVisited (start ∷ starts) [] = ⊥
   HaveVisited (start ∷ starts) (back ∷ rest) = HasVisited start back × HaveVisited starts rest
 
-  -- what a worker's answers tell is so of these journals: of each exchange of its connections, by the receipts of its own calls; and where the journals are one run,
-  -- these calls are steps of it, one behind the other
-  abbrev pub TellsOf : (logs : List JournalLog) (start : StoreView Passing H) (calls : List Told) → IsVisit start calls → Type 0
-  TellsOf logs start calls visit =
-      AreToldBy finds names takes logs start (all_parts visit.log) visit.owns visit.end × ((run : IsInterleaving logs) → HappenFrom run 0 (all_calls visit.owns))
+  -- what a worker's answers tell is so of these journals: of each exchange of its connections, by the receipts of its own calls; and where the journals are one run
+  -- that goes on from fronts of which this is so, these calls are steps of it, one behind the other
+  abbrev pub TellsOf : (List ℕ → Type 0) → (logs : List JournalLog) (start : StoreView Passing H) (calls : List Told) → IsVisit start calls → Type 0
+  TellsOf GoesOn logs start calls visit =
+      AreToldBy finds names takes logs start (all_parts visit.log) visit.owns visit.end × ((fronts : List ℕ) → GoesOn fronts → HappenBehind fronts logs (all_calls visit.owns))
 
   -- so it is of each worker
-  abbrev pub AllTellOf : (logs : List JournalLog) (starts : List (StoreView Passing H)) (calls : List (List Told)) → AreVisits starts calls → Type 0
-  AllTellOf logs [] [] visits = Unit {0}
-  AllTellOf logs [] (calls ∷ rest) visits = ⊥
-  AllTellOf logs (start ∷ starts) [] visits = ⊥
-  AllTellOf logs (start ∷ starts) (calls ∷ rest) visits = TellsOf logs start calls visits.0 × AllTellOf logs starts rest visits.1
+  abbrev pub AllTellOf : (List ℕ → Type 0) → (logs : List JournalLog) (starts : List (StoreView Passing H)) (calls : List (List Told)) → AreVisits starts calls → Type 0
+  AllTellOf GoesOn logs [] [] visits = Unit {0}
+  AllTellOf GoesOn logs [] (calls ∷ rest) visits = ⊥
+  AllTellOf GoesOn logs (start ∷ starts) [] visits = ⊥
+  AllTellOf GoesOn logs (start ∷ starts) (calls ∷ rest) visits = TellsOf GoesOn logs start calls visits.0 × AllTellOf GoesOn logs starts rest visits.1
 
   -- each store had its visit, this is so of what the passes had been told before and the calls of the visits, and all answers tell of
-  -- these journals
-  abbrev pub AfterAnswers : List (StoreView Passing H) → List JournalLog → (List Told → Type 0) → Type 0
-  AfterAnswers starts logs Says = (calls : List (List Told)) × (visits : AreVisits starts calls) × Says (told_with starts calls) × AllTellOf logs starts calls visits
+  -- these journals, and of the run that they are from such fronts on
+  abbrev pub AfterAnswers : (List ℕ → Type 0) → List (StoreView Passing H) → List JournalLog → (List Told → Type 0) → Type 0
+  AfterAnswers GoesOn starts logs Says = (calls : List (List Told)) × (visits : AreVisits starts calls) × Says (told_with starts calls) × AllTellOf GoesOn logs starts calls visits
 
   -- each store had its visit, this is so of what the passes had been told before and the calls of the visits, and all answers tell of
-  -- whatever journals hold all that was told
+  -- whatever journals hold all that was told, and of the run that they are where nothing was there before
   abbrev pub AfterAnswersOf : List (StoreView Passing H) → (List Told → List Told → Type 0) → Type 0
   AfterAnswersOf starts Says =
       (calls : List (List Told)) × (visits : AreVisits starts calls) × (all : List Told) × Says (told_with starts calls) all
-      × ((logs : List JournalLog) → IsGathered all logs → AllTellOf logs starts calls visits)
+      × ((logs : List JournalLog) → IsGathered all logs → AllTellOf (λ fronts. fronts ≡ []) logs starts calls visits)

@@ -210,7 +210,7 @@ pub fn live<
     requires numbers { staffed.begun.first + 16 ≤ 2 ^ 32 }
     ensures told { Tells stay.entry.door result (O.contents out.old) (O.contents out.new) }
     ensures kept { Leaves stay.entry.folder staffed.cluster.first staffed.cluster.vnodes stay.entry.held.files.items result }
-    ensures served { LeavesServed H.finds H.names H.takes staffed.cluster.vnodes (AreStarts H.takes (hooks_for stay.entry.folder stay.entry.held.hooks.items) (map (λ s. begun staffed.cluster s.pass s.hooking.hooks s.hooking.table.listed s.placement) staffed.seats.items)) result }
+    ensures served { LeavesServed H.finds H.names H.takes (fronts_for stay.entry.folder staffed.cluster.vnodes stay.entry.held.files.items) staffed.cluster.vnodes (AreStarts H.takes (hooks_for stay.entry.folder stay.entry.held.hooks.items) (map (λ s. begun staffed.cluster s.pass s.hooking.hooks s.hooking.table.listed s.placement) staffed.seats.items)) result }
 {
     let Stay {
         folder,

@@ -7,7 +7,7 @@ ghost use Rattle.cluster_vnode.specs.Calls.{pass_view};
 ghost use Rattle.dvvstore.specs.Crews.{AreAllPlaced};
 ghost use Rattle.hook_readers.specs.Edits.{Finds, Names};
 ghost use Rattle.hook_sharing.specs.Taking.{Takes};
-ghost use Rattle.dvvstore.specs.Keeping.{HasBegunWith, Leaves, LeavesFolded, LeavesServed, Tells, hooks_for};
+ghost use Rattle.dvvstore.specs.Keeping.{HasBegunWith, Leaves, LeavesFolded, LeavesServed, Tells, fronts_for, hooks_for};
 ghost use Rattle.dvvstore.specs.Visits.{BeginOver};
 
 use crate::crew::{Lookout, Seat, Served};
@@ -111,8 +111,7 @@ pub fn live<
     requires some { 0 < vec_len tables }
     requires few { vec_len tables ≤ 16 }
     ensures told { Tells stay.entry.door result (O.contents out.old) (O.contents out.new) }
-    ensures kept { LeavesFolded stay.entry.folder making.first making.spread.vnodes stay.entry.held.files.items result }
-    ensures served { LeavesServed Finds Names Takes making.spread.vnodes (BeginOver Takes (record { first = making.first; vnodes = making.spread.vnodes; passes = vec_len tables + making.spread.vnodes + 1 }) making.spread.copies (map (λ t. t.listed) tables.items) (hooks_for stay.entry.folder stay.entry.held.hooks.items)) result }
+    ensures kept { LeavesFolded Finds Names Takes stay.entry.folder making.first making.spread.vnodes stay.entry.held.files.items (BeginOver Takes (record { first = making.first; vnodes = making.spread.vnodes; passes = vec_len tables + making.spread.vnodes + 1 }) making.spread.copies (map (λ t. t.listed) tables.items) (hooks_for stay.entry.folder stay.entry.held.hooks.items)) result }
 {
     let stay = stay.folded(host.alloc, making.first / VNODES_PER_NUMBER)?;
     over_files(host, making, tables, stay, out)
@@ -135,7 +134,7 @@ fn over_files<
     requires few { vec_len tables ≤ 16 }
     ensures told { Tells stay.entry.door result (O.contents out.old) (O.contents out.new) }
     ensures kept { Leaves stay.entry.folder making.first making.spread.vnodes stay.entry.held.files.items result }
-    ensures served { LeavesServed Finds Names Takes making.spread.vnodes (BeginOver Takes (record { first = making.first; vnodes = making.spread.vnodes; passes = vec_len tables + making.spread.vnodes + 1 }) making.spread.copies (map (λ t. t.listed) tables.items) (hooks_for stay.entry.folder stay.entry.held.hooks.items)) result }
+    ensures served { LeavesServed Finds Names Takes (fronts_for stay.entry.folder making.spread.vnodes stay.entry.held.files.items) making.spread.vnodes (BeginOver Takes (record { first = making.first; vnodes = making.spread.vnodes; passes = vec_len tables + making.spread.vnodes + 1 }) making.spread.copies (map (λ t. t.listed) tables.items) (hooks_for stay.entry.folder stay.entry.held.hooks.items)) result }
 {
     let size = Size {
         first: making.first,
@@ -177,7 +176,7 @@ fn over_stamps<
     requires card { undrawn.card.me ≡ (newcomer undrawn.stamps.table.shared.key, []) }
     ensures told { Tells stay.entry.door result (O.contents out.old) (O.contents out.new) }
     ensures kept { Leaves stay.entry.folder undrawn.making.first undrawn.making.spread.vnodes stay.entry.held.files.items result }
-    ensures served { LeavesServed Finds Names Takes undrawn.making.spread.vnodes (BeginOver Takes (record { first = undrawn.making.first; vnodes = undrawn.making.spread.vnodes; passes = vec_len tables + undrawn.making.spread.vnodes + 1 }) undrawn.making.spread.copies (map (λ t. t.listed) tables.items) (hooks_for stay.entry.folder stay.entry.held.hooks.items)) result }
+    ensures served { LeavesServed Finds Names Takes (fronts_for stay.entry.folder undrawn.making.spread.vnodes stay.entry.held.files.items) undrawn.making.spread.vnodes (BeginOver Takes (record { first = undrawn.making.first; vnodes = undrawn.making.spread.vnodes; passes = vec_len tables + undrawn.making.spread.vnodes + 1 }) undrawn.making.spread.copies (map (λ t. t.listed) tables.items) (hooks_for stay.entry.folder stay.entry.held.hooks.items)) result }
 {
     let Making { seed, spread, .. } = undrawn.making;
     let vnodes = begin(host, undrawn, tables.len(), &stay)?;
@@ -323,7 +322,7 @@ fn over_cluster<
     requires numbers { parts.vnodes.begun.first + 16 ≤ 2 ^ 32 }
     ensures told { Tells stay.entry.door result (O.contents out.old) (O.contents out.new) }
     ensures kept { Leaves stay.entry.folder parts.vnodes.cluster.first parts.vnodes.cluster.vnodes stay.entry.held.files.items result }
-    ensures served { LeavesServed Finds Names Takes parts.vnodes.cluster.vnodes (BeginOver Takes parts.vnodes.cluster parts.spread.copies (map (λ t. t.listed) parts.tables.items) (hooks_for stay.entry.folder stay.entry.held.hooks.items)) result }
+    ensures served { LeavesServed Finds Names Takes (fronts_for stay.entry.folder parts.vnodes.cluster.vnodes stay.entry.held.files.items) parts.vnodes.cluster.vnodes (BeginOver Takes parts.vnodes.cluster parts.spread.copies (map (λ t. t.listed) parts.tables.items) (hooks_for stay.entry.folder stay.entry.held.hooks.items)) result }
 {
     over_ground(host, parts, opening.named::<J>(host.alloc), stay, out)
 }
@@ -356,7 +355,7 @@ fn over_ground<
     requires numbers { parts.vnodes.begun.first + 16 ≤ 2 ^ 32 }
     ensures told { Tells stay.entry.door result (O.contents out.old) (O.contents out.new) }
     ensures kept { Leaves stay.entry.folder parts.vnodes.cluster.first parts.vnodes.cluster.vnodes stay.entry.held.files.items result }
-    ensures served { LeavesServed Finds Names Takes parts.vnodes.cluster.vnodes (BeginOver Takes parts.vnodes.cluster parts.spread.copies (map (λ t. t.listed) parts.tables.items) (hooks_for stay.entry.folder stay.entry.held.hooks.items)) result }
+    ensures served { LeavesServed Finds Names Takes (fronts_for stay.entry.folder parts.vnodes.cluster.vnodes stay.entry.held.files.items) parts.vnodes.cluster.vnodes (BeginOver Takes parts.vnodes.cluster parts.spread.copies (map (λ t. t.listed) parts.tables.items) (hooks_for stay.entry.folder stay.entry.held.hooks.items)) result }
 {
     match open(host.alloc, host.rt, ground, parts.tables.len()) {
         Ok((installer, readers)) => {
@@ -399,7 +398,7 @@ fn over_hooks<
     requires numbers { parts.vnodes.begun.first + 16 ≤ 2 ^ 32 }
     ensures told { Tells stay.entry.door result (O.contents out.old) (O.contents out.new) }
     ensures kept { Leaves stay.entry.folder parts.vnodes.cluster.first parts.vnodes.cluster.vnodes stay.entry.held.files.items result }
-    ensures served { LeavesServed Finds Names Takes parts.vnodes.cluster.vnodes (BeginOver Takes parts.vnodes.cluster parts.spread.copies (map (λ t. t.listed) parts.tables.items) (hooks_for stay.entry.folder stay.entry.held.hooks.items)) result }
+    ensures served { LeavesServed Finds Names Takes (fronts_for stay.entry.folder parts.vnodes.cluster.vnodes stay.entry.held.files.items) parts.vnodes.cluster.vnodes (BeginOver Takes parts.vnodes.cluster parts.spread.copies (map (λ t. t.listed) parts.tables.items) (hooks_for stay.entry.folder stay.entry.held.hooks.items)) result }
 {
     let Parts {
         vnodes,

@@ -1,18 +1,13 @@
 -- What is gathered.
-use Rattle.std.proofs.Common.{◌≡◌, ◌⊎◌, inl, inr, ℕ, zero, suc, ◌<◌, ◌≤◌, get_or, List, [], ◌∷◌, ◌++◌, length, drop, refl, sym, ap, ◌∙◌, subst, arith, append_assoc, append-nil, length-append, ⊎_elim, Ok, Err, ◌↔◌}
+use Rattle.std.proofs.Common.{◌≡◌, ℕ, zero, suc, ◌<◌, ◌≤◌, get_or, List, [], ◌∷◌, ◌++◌, length, drop, refl, sym, ap, ◌∙◌, arith, append_assoc, length-append}
 use Rattle.std.specs.List.{Contains}
 use Rattle.journal.specs.Entry.{Entry}
-use Rattle.journal.specs.Journals.{IsJournal, MayFollow}
 use Rattle.journal.specs.Logs.{Log}
-use Rattle.cluster_stamps.specs.Rule.{AreInOrder, InOrder, seen}
-use Rattle.cluster_stamps.specs.declared.view.History.{History}
-use Rattle.cluster_stamps.specs.declared.view.News.{News}
-use Rattle.cluster_stamps.specs.declared.view.News.TheVariants as news
+use Rattle.cluster_stamps.specs.Rule.{seen}
 use Rattle.cluster_stamps.specs.declared.view.Told.{Told}
-use Rattle.cluster_vnode.specs.Answers.{AreAnswered, IsSaid, entries_made, entries_of, entry_of_call, log_of}
-use Rattle.cluster_vnode.specs.Gathers.{AreVnodes, Differ, IsGathered, IsHistory, Stands, numbers_of}
+use Rattle.cluster_vnode.specs.Answers.{entry_of_call}
+use Rattle.cluster_vnode.specs.Gathers.{Differ, Stands, numbers_of}
 use Rattle.cluster_vnode.proofs.Calls.{length_made}
-use Rattle.cluster_vnode.proofs.Differ.{differ}
 use Rattle.server_receipts.specs.Receipts.{front_of, up_to}
 
 number_there : (vs : List Log) (k : ℕ) (v : Log) → k < length vs → get_or vs k v ≡ v → (k < length (numbers_of vs)) × (get_or (numbers_of vs) k 0 ≡ v.vnode)
@@ -26,7 +21,7 @@ same_place (u ∷ us) zero v w lt = refl
 same_place (u ∷ us) (suc k) v w lt = same_place us k v w (let l = lt in omega arith)
 
 -- two vnodes with one identifier are one
-one_vnode : (vs : List Log) (v w : Log) → Differ vs → Contains vs v → Contains vs w → v.vnode ≡ w.vnode → v ≡ w
+pub one_vnode : (vs : List Log) (v w : Log) → Differ vs → Contains vs v → Contains vs w → v.vnode ≡ w.vnode → v ≡ w
 one_vnode vs v w apart a b e =
     let p = number_there vs a.0 v a.1 a.2 in
     let q = number_there vs b.0 w b.1 b.2 in

@@ -4,6 +4,7 @@ pub mod OrderLemmas
 pub mod ReadLemmas
 pub mod WriteLemmas
 pub mod ResolveLemmas
+pub mod FrontLemmas
 pub mod FollowLemmas
 pub mod ToldLemmas
 pub mod Rows

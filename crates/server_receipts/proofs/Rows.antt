@@ -1,6 +1,7 @@
 -- Worked rows, and wrong answers that are refused.
-use Rattle.std.proofs.Common.{◌≡◌, ℕ, ◌+◌, ◌<◌, ◌≤◌, true, List, [], ◌∷◌, ◌++◌, length, drop, get_or, length-append, ap, ◌∙◌, sym, refl, arith, Option, Some, None, Result, Ok, Err}
+use Rattle.std.proofs.Common.{◌≡◌, ℕ, ◌+◌, ◌<◌, ◌≤◌, true, List, [], ◌∷◌, ◌++◌, length, drop, get_or, length-append, ap, ◌∙◌, sym, subst, refl, arith, inl, inr, Option, Some, None, Result, Ok, Err}
 use Rattle.std.specs.List.{AllZip, Contains}
+use Rattle.std.proofs.lemmas.List.Elements.{Contains-append_right}
 use Rattle.bpf_image.specs.declared.image.ImageKind.{ImageKind}
 use Rattle.bpf_verifier.specs.Program.{Program}
 use Rattle.dvv.specs.declared.Dot.{Dot}
@@ -112,6 +113,17 @@ module _ (logs : List Log) (key : Key) where
     -- the resolver wrote nothing
     unwritten : (merged state : State) → IsResolvedBy finds logs old new key at merged [] state → ⊥
     unwritten merged state h = none_before h.before h.put (h.read ∷ []) h.parts
+
+    -- what is answered isn't the merge of what came, and nothing was put
+    put_nowhere : (r : ℕ) (own : List Told) (state : State) → ((t : Told) (seen : List Dot) (content : Content) (dot : Dot) → Contains own t → t.news ≡ news.Call (request.Put key seen content) (Ok (reply.Dot dot)) → ⊥)
+        → (h : IsCurrentBy finds logs old new key r at own state) → (state ≡ h.merged → ⊥) → ⊥
+    put_nowhere r own state none h other = elim h.answer [
+      | inl is ↦ other is
+      | inr by ↦
+          (let last : Contains h.last by.put = subst (λ (ts : List Told). Contains ts by.put) (sym by.parts) (Contains-append_right by.before (by.put ∷ by.read ∷ []) by.put (0, omega arith, refl)) in
+          let there : Contains own by.put = subst (λ (ts : List Told). Contains ts by.put) (sym h.parts) (Contains-append_right h.asked (h.repairs ++ h.last) by.put (Contains-append_right h.repairs h.last by.put last)) in
+          none by.put h.merged.clock by.content by.dot there by.written.1)
+    ]
 
     -- what the resolver put was not read behind it
     not_read : (t : Told) (merged state : State) → IsResolvedBy finds logs old new key at merged (t ∷ []) state → ⊥

@@ -1,6 +1,6 @@
 //! What receipts tell. Each of these functions does nothing: its contract is the law.
 
-ghost use Rattle.std.specs.Prelude.{◌≡◌, ◌≤◌, ◌++◌, List};
+ghost use Rattle.std.specs.Prelude.{◌≡◌, ◌≤◌, ◌++◌, ℕ, List};
 ghost use Rattle.std.specs.List.{Contains};
 ghost use Rattle.http_connection.specs.Dialogue.{Exchange};
 ghost use Rattle.journal.specs.Entry.{Entry};
@@ -11,7 +11,7 @@ ghost use Rattle.cluster_vnode.specs.Gathers.{Differ, IsGathered, Stands};
 ghost use Rattle.server_store.specs.View.{StoreView};
 ghost use Rattle.server_one_thread.specs.Passes.{AreCallsOf, GivesUnnoted, PassCalls, Passing, all_calls, told_by};
 ghost use Rattle.audit_replay.specs.Interleaved.{IsInterleaving};
-ghost use Rattle.audit_cluster.specs.Moments.{HappenFrom};
+ghost use Rattle.audit_cluster.specs.Moments.{AreMadeBy, HappenBehind, HappenFrom};
 ghost use Rattle.server_receipts.specs.Receipts.{AreBehind, AreToldBy, front_of, up_to};
 
 use hook_registry::{HookChanges, Hooks};
@@ -45,11 +45,16 @@ pub fn calls_come_in_order<H: Hooks + HookChanges>()
 
 /// Where the gathered journals are one run, the calls of a worker's exchanges are steps of it, one behind the other: the merges of a write
 /// come behind its put, and what a request calls comes behind what earlier requests of its connection called. Each vnode told what it
-/// knew at that moment of the run.
+/// knew at that moment of the run. So it is of a run that goes on from fronts of the journals, too, where others were told of the calls
+/// that made the entries of these.
 pub fn answers_are_of_the_run<H: Hooks + HookChanges>()
-    ensures { (told : List Told) (logs : List Log) → IsGathered told logs → (run : IsInterleaving logs) (start end : StoreView Passing H) (xs : List Exchange) (owns : List (List Told))
+    ensures behind { (told others : List Told) (logs : List Log) → IsGathered (told ++ others) logs → (fronts : List ℕ) → AreMadeBy others fronts logs
+        → (start end : StoreView Passing H) (xs : List Exchange) (owns : List (List Told)) → AreToldBy H.finds H.names H.takes logs start xs owns end → ((t : Told) → Contains (all_calls owns) t → Contains told t) → HappenBehind fronts logs (all_calls owns) }
+    ensures whole { (told : List Told) (logs : List Log) → IsGathered told logs → (run : IsInterleaving logs) (start end : StoreView Passing H) (xs : List Exchange) (owns : List (List Told))
         → AreToldBy H.finds H.names H.takes logs start xs owns end → ((t : Told) → Contains (all_calls owns) t → Contains told t) → HappenFrom run 0 (all_calls owns) }
 {
     calls_come_in_order::<H>();
+    cluster_vnode::receipts_stand();
+    cluster_vnode::gathered_are_journals();
     audit_cluster::laws::calls_are_of_the_run();
 }

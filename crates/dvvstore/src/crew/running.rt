@@ -1,8 +1,8 @@
 //! A crew at work, from its beginning to what is left of it.
 
 ghost use Rattle.std.specs.Prelude.{◌≡◌, ◌+◌, ◌++◌, ◌≤◌, [], IfOk, map, vec_len};
-ghost use Rattle.audit_cluster.specs.Following.{IsFollowedTo, IsSaidOf};
-ghost use Rattle.dvvstore.specs.Asides.{AllRead, AreGathered, WithAsides};
+ghost use Rattle.audit_cluster.specs.Following.{AreNumbered, IsFollowedTo, IsSaidOf};
+ghost use Rattle.dvvstore.specs.Asides.{AllRead, AreBrought, AreGathered, WithAsides};
 ghost use Rattle.dvvstore.specs.Visits.{AfterAnswers, AfterAnswersOf, HaveVisited, begun};
 
 use crate::crew::abreast::join_three;
@@ -137,7 +137,8 @@ pub struct Served {
 /// workers were told, what these passes had been told before and then of reads, and what the watch was told, which has vnodes hand out and
 /// start again and does nothing else. Each answer of a worker tells of these journals, by the receipts of its own calls: a read's is
 /// current among what they had brought before, and a write's dot is that of its entry, which as many vnodes as were asked for know. Where
-/// the journals are one run from their first entries on, these calls are steps of it, one behind the other.
+/// the journals are one run from their first entries on, or from fronts on that these passes had brought, these calls are steps of it, one
+/// behind the other.
 ///
 /// The error: memory was refused before the vnodes were gathered, and they are lost; some workers may have answered no connection then.
 pub fn serve<
@@ -155,9 +156,12 @@ pub fn serve<
     requires first { cluster.first ≡ B.first }
     requires all { cluster.passes ≤ vec_len crew.seats + vec_len crew.spares + 1 }
     requires few { vec_len crew.spares ≤ 16 }
-    // Each answer of a worker tells of the journals that are left, by the receipts of its own calls.
-    ensures kept { IfOk result (λ served. AfterAnswers H.finds H.names H.takes (map (λ s. begun cluster s.pass s.hooking.hooks s.hooking.table.listed s.placement) crew.seats.items) served.closed.vnodes.items (λ told. AreGathered cluster.first told crew.spares.items served.closed.vnodes.items) × (vec_len served.closed.vnodes ≡ cluster.vnodes)) }
+    // Each answer of a worker tells of the journals that are left, by the receipts of its own calls; and of the run that they are from
+    // fronts on whose entries these passes had been told of.
+    ensures kept { IfOk result (λ served. AfterAnswers H.finds H.names H.takes (AreBrought crew.spares.items served.closed.vnodes.items) (map (λ s. begun cluster s.pass s.hooking.hooks s.hooking.table.listed s.placement) crew.seats.items) served.closed.vnodes.items (λ told. AreGathered cluster.first told crew.spares.items served.closed.vnodes.items) × (vec_len served.closed.vnodes ≡ cluster.vnodes)) }
     ensures said { IfOk result (λ served. IsSaidOf fronts.now served.closed.vnodes.items served.closed.said) }
+    // A yes is of journals that stand at the places of their numbers, as the fronts do.
+    ensures numbered { IfOk result (λ served. IfOk served.closed.said (λ all. AreNumbered cluster.first served.closed.vnodes.items)) }
     // Where nothing was there before, a yes is that of the journals from their first entries on.
     ensures followed { IfOk result (λ served. fronts.now ≡ [] → AfterAnswersOf H.finds H.names H.takes (map (λ s. begun cluster s.pass s.hooking.hooks s.hooking.table.listed s.placement) crew.seats.items) (λ told all. WithAsides cluster.first crew.spares.items (λ these. (these ≡ all) × IsFollowedTo all cluster.vnodes served.closed.said) told)) }
 {

@@ -4,11 +4,11 @@ use Rattle.journal.specs.Logs.{Log}
 use Rattle.cluster_stamps.specs.declared.view.Told.{Told}
 use Rattle.cluster_stamps.specs.declared.view.View.{View}
 use Rattle.world.specs.Represents.{log_at}
-use Rattle.std.specs.Prelude.{Result}
+use Rattle.std.specs.Prelude.{IfOk, Result}
 use Rattle.cluster_vnode.specs.Gathers.{IsGathered}
 use Rattle.audit_faults.specs.declared.fault.WatchFault.{WatchFault}
-use Rattle.audit_cluster.specs.Following.{AreFronts, IsSaidOf, StopsIn, Watched}
-use Rattle.audit_cluster.proofs.Ends.{are_fronts, said_at_end, stopped_in, told_last}
+use Rattle.audit_cluster.specs.Following.{AreFronts, AreNumbered, IsSaidOf, StopsIn, Watched}
+use Rattle.audit_cluster.proofs.Ends.{are_fronts, if_any, said_at_end, stopped_in, told_last}
 use Rattle.audit_cluster.proofs.Left.{none_left}
 use Rattle.audit_cluster.proofs.ending.close_watched.Goals as goal
 use Rattle.audit_cluster.proofs.ending.close_watched.Goals.{then-are_numbered, else-are_numbered}
@@ -64,3 +64,16 @@ returns-in-Ok-clause-followed g c none =
       | else-are_numbered w ↦ subst (λ (r : Result (Unit {0}) WatchFault). says fronts r) (sym w.said-is) tt
     ] in
     said_at_end told c.args.cluster.vnodes logs c.if-are_numbered.said gathered size (subst (λ (ns : List ℕ). says ns c.if-are_numbered.said) none said)
+
+pub returns-in-Ok-clause-numbered : goal.returns-in-Ok-clause-numbered
+returns-in-Ok-clause-numbered g c =
+    let logs = c.in-Ok.vnodes.items in
+    let first = g.B.Spot.first in
+    let says = λ (r : Result (Unit {0}) WatchFault). IfOk r (λ all. AreNumbered first logs) in
+    elim c.if-are_numbered.branch [
+      | then-are_numbered w ↦
+          (let numbers : (i : ℕ) → i < length logs → (log_at logs i).vnode ≡ c.watch.inside.first + i =
+          subst (λ (ls : List Log). (i : ℕ) → i < length ls → (log_at ls i).vnode ≡ c.watch.inside.first + i) c.deref.ensures.value (c.are_numbered.ensures.numbers w.if-are_numbered.true) in
+          if_any c.if-are_numbered.said (AreNumbered first logs) (λ i inside. numbers i inside ∙ ap (λ (k : ℕ). k + i) c.watch.invariant.0))
+      | else-are_numbered w ↦ subst says (sym w.said-is) tt
+    ]

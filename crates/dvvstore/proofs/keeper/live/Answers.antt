@@ -1,5 +1,5 @@
 use Rattle.std.proofs.Common.{◌≡◌, ◌∙◌, ℕ, List, Result, ap, map, subst, sym, vec_len}
-use Rattle.dvvstore.specs.Keeping.{Leaves, LeavesServed, hooks_for}
+use Rattle.dvvstore.specs.Keeping.{Leaves, LeavesServed, fronts_for, hooks_for}
 use Rattle.dvvstore.specs.Visits.{AreStarts, begun}
 use Rattle.dvvstore.specs.declared.keeper.Unbegun.{Unbegun}
 use Rattle.dvvstore.specs.declared.session.Left.{Left}
@@ -52,9 +52,12 @@ returns-in-Open-clause-served g c =
     let served = c.serve.result in
     let held = hooks_for c.args.stay.folder c.args.stay.held.hooks.items in
     let are = starts_as g.H.HookChanges.takes _ held starts now (c.hooks_of.ensures ∙ ap (λ (hooks : List ℕ). hooks_for c.args.stay.folder hooks) c.deref.ensures.value) (c.begin_seats.new.lookout.requests, c.in_ok-begin_seats.ensures.starts size) in
-    subst (λ (left : Result Left Unbegun). LeavesServed g.H.Hooks.finds g.H.Hooks.names g.H.HookChanges.takes size.vnodes (AreStarts g.H.HookChanges.takes held starts) left) (sym c.left_of.ensures)
-    (served_so g.H.Hooks.finds g.H.Hooks.names g.H.HookChanges.takes size.vnodes (AreStarts g.H.HookChanges.takes held starts) served
-    (served_from g.H.Hooks.finds g.H.Hooks.names g.H.HookChanges.takes held starts now size.first size.vnodes c.args.staffed.begun.spares.items served are c.serve.ensures.kept))
+    let files = c.args.stay.held.files.items in
+    let fronts = fronts_for c.args.stay.folder size.vnodes files in
+    subst (λ (left : Result Left Unbegun). LeavesServed g.H.Hooks.finds g.H.Hooks.names g.H.HookChanges.takes fronts size.vnodes (AreStarts g.H.HookChanges.takes held starts) left) (sym c.left_of.ensures)
+    (served_so g.H.Hooks.finds g.H.Hooks.names g.H.HookChanges.takes fronts size.vnodes (AreStarts g.H.HookChanges.takes held starts) served
+    (served_from g.H.Hooks.finds g.H.Hooks.names g.H.HookChanges.takes held starts now c.args.stay.folder size.first size.vnodes files c.args.staffed.begun served are c.requires.begun
+    (sym c.args.staffed.begun.spares.ok.0 ∙ c.requires.spares) c.serve.ensures.kept c.serve.ensures.numbered))
 
 pub returns-clause-served : goal.returns-clause-served
 returns-clause-served g c =
@@ -64,6 +67,9 @@ returns-clause-served g c =
     let served = c.serve-in-Closed.result in
     let held = hooks_for c.args.stay.folder c.args.stay.held.hooks.items in
     let are = starts_as g.H.HookChanges.takes _ held starts now (c.hooks_of.ensures ∙ ap (λ (hooks : List ℕ). hooks_for c.args.stay.folder hooks) c.deref.ensures.value) (c.begin_seats.new.lookout.requests, c.in_ok-begin_seats.ensures.starts size) in
-    subst (λ (left : Result Left Unbegun). LeavesServed g.H.Hooks.finds g.H.Hooks.names g.H.HookChanges.takes size.vnodes (AreStarts g.H.HookChanges.takes held starts) left) (sym c.left_of-in-Closed.ensures)
-    (served_so g.H.Hooks.finds g.H.Hooks.names g.H.HookChanges.takes size.vnodes (AreStarts g.H.HookChanges.takes held starts) served
-    (served_from g.H.Hooks.finds g.H.Hooks.names g.H.HookChanges.takes held starts now size.first size.vnodes c.args.staffed.begun.spares.items served are c.serve-in-Closed.ensures.kept))
+    let files = c.args.stay.held.files.items in
+    let fronts = fronts_for c.args.stay.folder size.vnodes files in
+    subst (λ (left : Result Left Unbegun). LeavesServed g.H.Hooks.finds g.H.Hooks.names g.H.HookChanges.takes fronts size.vnodes (AreStarts g.H.HookChanges.takes held starts) left) (sym c.left_of-in-Closed.ensures)
+    (served_so g.H.Hooks.finds g.H.Hooks.names g.H.HookChanges.takes fronts size.vnodes (AreStarts g.H.HookChanges.takes held starts) served
+    (served_from g.H.Hooks.finds g.H.Hooks.names g.H.HookChanges.takes held starts now c.args.stay.folder size.first size.vnodes files c.args.staffed.begun served are c.requires.begun
+    (sym c.args.staffed.begun.spares.ok.0 ∙ c.requires.spares) c.serve-in-Closed.ensures.kept c.serve-in-Closed.ensures.numbered))

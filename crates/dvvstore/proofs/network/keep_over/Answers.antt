@@ -2,7 +2,7 @@ use Rattle.std.proofs.Common.{◌*◌, ◌+◌, Ok, Some, ap, map, refl, subst, 
 use Rattle.cluster_stamps.specs.declared.view.Size.{Size}
 use Rattle.hook_readers.specs.Edits.{Finds, Names}
 use Rattle.hook_sharing.specs.Taking.{Takes}
-use Rattle.dvvstore.specs.Keeping.{LeavesFolded, LeavesServed}
+use Rattle.dvvstore.specs.Keeping.{LeavesFolded}
 use Rattle.dvvstore.specs.Over.{IsOpened}
 use Rattle.dvvstore.specs.Visits.{BeginOver}
 use Rattle.dvvstore.specs.declared.session.Left.{Left}
@@ -36,10 +36,9 @@ returns-in-Ok-Kept-clause-kept g c =
     let tables = map (λ t. t.listed) c.args.keeping.tables.items in
     let size : Size = record { first = opened.number * 256; vnodes = spread.vnodes; passes = vec_len c.args.keeping.tables + spread.vnodes + 1 } in
     let opens : IsOpened finds does c.args.keeping.minute c.args.folder.now opened c.open.new.folder = record { read = did.read; files = did.files; hooks = did.hooks; set = did.settings; next = did.next; above = did.above; least = did.minute; put = did.put } in
-    let begins = subst (λ (l : Left). LeavesFolded (Some c.open.new.folder) size.first size.vnodes held.files.items (Ok l)) c.in-Ok-Kept.field-0-is c.in-Ok-Kept.ensures.kept in
-    let serves = subst (λ (l : Left). LeavesServed Finds Names Takes size.vnodes (BeginOver Takes size spread.copies tables (Some held.hooks.items)) (Ok l)) c.in-Ok-Kept.field-0-is c.in-Ok-Kept.ensures.served in
+    let begins = subst (λ (l : Left). LeavesFolded Finds Names Takes (Some c.open.new.folder) size.first size.vnodes held.files.items (BeginOver Takes size spread.copies tables (Some held.hooks.items)) (Ok l)) c.in-Ok-Kept.field-0-is c.in-Ok-Kept.ensures.kept in
     kept_over finds does c.args.keeping.minute tables c.args.folder.now c.open.new.folder c.finish.new.folder opened size spread.copies held.hooks.items held.files.items c.in-Ok-Kept.served c.finish.result
-    opens refl spread.some spread.many c.among-spread.ensures.copies (ap (λ v. v.items) c.in-Ok-held_for.ensures.hooks) c.in-Ok-held_for.ensures.placed begins serves c.finish.ensures.says c.finish.ensures.put
+    opens refl spread.some spread.many c.among-spread.ensures.copies (ap (λ v. v.items) c.in-Ok-held_for.ensures.hooks) c.in-Ok-held_for.ensures.placed begins c.finish.ensures.says c.finish.ensures.put
 
 pub returns-in-Ok-Lost-clause-kept : goal.returns-in-Ok-Lost-clause-kept
 returns-in-Ok-Lost-clause-kept g c =

@@ -2,7 +2,7 @@ use Rattle.std.proofs.Common.{◌∙◌, ◌+◌, ℕ, ap, map, subst, vec_len}
 use Rattle.hook_readers.specs.Edits.{Finds, Names}
 use Rattle.hook_sharing.specs.Taking.{Takes}
 use Rattle.cluster_stamps.specs.declared.view.Size.{Size}
-use Rattle.dvvstore.specs.Keeping.{LeavesServed, hooks_for}
+use Rattle.dvvstore.specs.Keeping.{LeavesServed, fronts_for, hooks_for}
 use Rattle.dvvstore.specs.Visits.{BeginOver}
 use Rattle.dvvstore.proofs.Serving.{size_as}
 use Rattle.dvvstore.proofs.Staying.{leaves_as}
@@ -23,5 +23,5 @@ returns-clause-served g c =
     let held = hooks_for c.args.stay.folder c.args.stay.held.hooks.items in
     let made = c.in_ok-vnodes.ensures in
     let size = size_as cluster c.args.undrawn.making.first vnodes (vec_len tables + vnodes + 1) made.first made.vnodes (made.all ∙ ap (λ (n : ℕ). n + vnodes + 1) c.len.ensures) in
-    subst (λ (n : ℕ). LeavesServed Finds Names Takes n (BeginOver Takes (record { first = c.args.undrawn.making.first; vnodes = vnodes; passes = vec_len tables + vnodes + 1 }) copies (map (λ t. t.listed) tables.items) held) c.over_cluster.result) made.vnodes
-    (subst (λ (s : Size). LeavesServed Finds Names Takes cluster.vnodes (BeginOver Takes s copies (map (λ t. t.listed) tables.items) held) c.over_cluster.result) size c.over_cluster.ensures.served)
+    subst (λ (n : ℕ). LeavesServed Finds Names Takes (fronts_for c.args.stay.folder n c.args.stay.held.files.items) n (BeginOver Takes (record { first = c.args.undrawn.making.first; vnodes = vnodes; passes = vec_len tables + vnodes + 1 }) copies (map (λ t. t.listed) tables.items) held) c.over_cluster.result) made.vnodes
+    (subst (λ (s : Size). LeavesServed Finds Names Takes (fronts_for c.args.stay.folder cluster.vnodes c.args.stay.held.files.items) cluster.vnodes (BeginOver Takes s copies (map (λ t. t.listed) tables.items) held) c.over_cluster.result) size c.over_cluster.ensures.served)
