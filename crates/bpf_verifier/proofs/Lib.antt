@@ -18,7 +18,8 @@ pub mod Summed
 pub mod CallSteps
 pub mod Classes
 pub mod NamedRows
-pub mod NamedEdges
+pub mod PairRows
+pub mod NarrowedEdges
 pub mod SumRuns
 pub mod PairRuns
 pub mod Counting

@@ -43,7 +43,7 @@ use Rattle.bpf_verifier.proofs.Refined.{refined_is_long, refined_kinds}
 use Rattle.bpf_verifier.proofs.SumSteps.{Adds, Holds, AllHold, told_long, told_kinds, most_of, most_word, le_from, at_register, at_operand, kind_operand, whole_sum}
 use Rattle.bpf_verifier.proofs.SumRuns.{Written, all_same, differ, no_not, operand_word, number_other, number_same}
 use Rattle.bpf_verifier.proofs.Classes.{or_left, or_right}
-use Rattle.bpf_verifier.proofs.Together.{PairHolds, HoldPairs, same_number}
+use Rattle.bpf_verifier.proofs.Together.{PairHolds, HoldPairs, same_pairs, same_number}
 
 none_hold : (t : State) → HoldPairs no_pairs t
 none_hold t = record { first = tt; second = tt; third = tt; fourth = tt }
@@ -59,14 +59,6 @@ before_holds t pair (Some a) (Some b) (Some c) d h w x y z = record { first = h;
 with_pair_holds : (t : State) (pair : Option Pair) (pairs : Pairs) → PairHolds pair t → HoldPairs pairs t → HoldPairs (with_pair pair pairs) t
 with_pair_holds t None pairs h g = g
 with_pair_holds t (Some pair) pairs h g = before_holds t pair pairs.first pairs.second pairs.third pairs.fourth h g.first g.second g.third g.fourth
-
--- what pairs say of registers alone
-same_pair : (pair : Option Pair) (s t : State) → t.registers ≡ s.registers → PairHolds pair s → PairHolds pair t
-same_pair None s t e h = tt
-same_pair (Some pair) s t e h = subst (λ rs. PairHolds (Some pair) (record s { registers = rs })) (sym e) h
-
-same_pairs : (pairs : Pairs) (s t : State) → t.registers ≡ s.registers → HoldPairs pairs s → HoldPairs pairs t
-same_pairs pairs s t e h = record { first = same_pair pairs.first s t e h.first; second = same_pair pairs.second s t e h.second; third = same_pair pairs.third s t e h.third; fourth = same_pair pairs.fourth s t e h.fourth }
 
 -- ---- one register is written
 

@@ -1,4 +1,4 @@
--- What names tell in plain programs: the addresses stay, and a number stays one, or Dead.
+-- What names tell in plain programs, and pairs behind them: the addresses stay, and a number stays one, or Dead.
 use Rattle.std.proofs.Common.{◌≡◌, ℕ, ℤ, Option, None, Some, true, refl, ap, ◌∙◌}
 use Rattle.std.specs.Prelude.{Result, Ok, Err, int_lt}
 use Rattle.std.proofs.lemmas.Bool.{cond_both}
@@ -20,9 +20,11 @@ use Rattle.bpf_ranges.specs.declared.number.Number.{Number}
 use Rattle.bpf_ranges.specs.Transfer.{kinds_left, transfer_of}
 use Rattle.bpf_verifier.specs.Registers.{Row, kind_at, one_number}
 use Rattle.bpf_verifier.specs.Naming.{equal_to, equal_result, from_other, told_of, named}
+use Rattle.bpf_verifier.specs.Paired.{narrowed}
+use Rattle.bpf_verifier.specs.declared.pair.Pairs.{Pairs}
 use Rattle.bpf_verifier.proofs.NamedRows.{named_keeps}
 use Rattle.bpf_verifier.proofs.PlainRows.{IsNum, IsNumOrUnset, PlainAt, num_or_unset, not_number, refined_numbers, cells_with_kind, Follows}
-use Rattle.bpf_verifier.proofs.PlainSums.{IsPointer, refined_pointer, not_unset, at_each, unset_back}
+use Rattle.bpf_verifier.proofs.PlainSums.{IsPointer, refined_pointer, not_unset, at_each, unset_back, paired_unset, paired_follows}
 
 -- ---- one kind
 
@@ -96,7 +98,7 @@ told_of_unset names a b row r u =
     (λ _. u)
 
 -- what is unset stays so
-pub named_unset : (profile : Profile) (x : Insn) (names : Names) (row : Row) (r : Register) → kind_at row r ≡ Unset → kind_at (named x profile names row) r ≡ Unset
+named_unset : (profile : Profile) (x : Insn) (names : Names) (row : Row) (r : Register) → kind_at row r ≡ Unset → kind_at (named x profile names row) r ≡ Unset
 named_unset profile x names row r u = named_keeps (λ q. kind_at q r ≡ Unset) names (λ a b q h. told_of_unset names a b q r h) x profile row u
 
 told_of_follows : (names : Names) (a b : Register) (row next : Row) (x : Insn) → Follows row next x → Follows row (told_of names a b next) x
@@ -112,5 +114,13 @@ told_of_follows names a b row next x f =
     (λ _. f)
 
 -- a plain row stays plain
-pub named_follows : (profile : Profile) (row next : Row) (x : Insn) (names : Names) → Follows row next x → Follows row (named x profile names next) x
+named_follows : (profile : Profile) (row next : Row) (x : Insn) (names : Names) → Follows row next x → Follows row (named x profile names next) x
 named_follows profile row next x names f = named_keeps (λ q. Follows row q x) names (λ a b q h. told_of_follows names a b row q x h) x profile next f
+
+-- ---- and with pairs behind them
+
+pub narrowed_unset : (profile : Profile) (x : Insn) (names : Names) (pairs : Pairs) (row : Row) (r : Register) → kind_at row r ≡ Unset → kind_at (narrowed x profile names pairs row) r ≡ Unset
+narrowed_unset profile x names pairs row r u = paired_unset profile x pairs _ r (named_unset profile x names row r u)
+
+pub narrowed_follows : (profile : Profile) (row next : Row) (x : Insn) (names : Names) (pairs : Pairs) → Follows row next x → Follows row (narrowed x profile names pairs next) x
+narrowed_follows profile row next x names pairs f = paired_follows profile row _ x pairs (named_follows profile row next x names f)

@@ -29,8 +29,9 @@ use Rattle.bpf_verifier.specs.PairSteps.{pairs_at}
 use Rattle.bpf_verifier.specs.declared.pair.Pairs.{Pairs}
 use Rattle.bpf_verifier.specs.Rules.{callee_in, compares_pointer, is_frame, broken_if, bad_result, class_rules, rules_of, first_of, row_taken}
 use Rattle.bpf_verifier.specs.Sums.{sums_at, row_on}
-use Rattle.bpf_verifier.specs.Naming.{names_in, named}
-use Rattle.bpf_verifier.specs.Table.{Edge, next_edge, target_edge, named_edges, join_rows, joined, into, edges_of, arrivals, table, broken_with, IsAccepted}
+use Rattle.bpf_verifier.specs.Naming.{names_in}
+use Rattle.bpf_verifier.specs.Paired.{narrowed}
+use Rattle.bpf_verifier.specs.Table.{Edge, next_edge, target_edge, narrowed_edges, join_rows, joined, into, edges_of, arrivals, table, broken_with, IsAccepted}
 use Rattle.bpf_verifier.specs.Plain.{IsIn, WrittenOn, SetAtStart, window_of, IsPlainInsn, IsPlain, InWindow, StaysInside, IsWellBehaved}
 use Rattle.bpf_verifier.proofs.Fits.{length_join}
 use Rattle.bpf_verifier.proofs.Shape.{Leads, NextStarts, next_leads, target_leads}
@@ -39,10 +40,10 @@ use Rattle.bpf_verifier.proofs.Soundness.{after_is_long, taken_is_long}
 use Rattle.bpf_verifier.proofs.SameReads.{reads_plain}
 use Rattle.bpf_verifier.proofs.Tables.{length_rows, table_at}
 use Rattle.bpf_verifier.proofs.SumSteps.{told_long}
-use Rattle.bpf_verifier.proofs.NamedRows.{named_long}
+use Rattle.bpf_verifier.proofs.PairRows.{narrowed_long}
 use Rattle.bpf_verifier.proofs.PlainSums.{told_follows, summed_follows}
 use Rattle.bpf_verifier.proofs.Summed.{summed_long}
-use Rattle.bpf_verifier.proofs.PlainNames.{named_follows}
+use Rattle.bpf_verifier.proofs.PlainNames.{narrowed_follows}
 use Rattle.bpf_verifier.proofs.PlainRows.{plain_number, IsNum, IsNumOrUnset, num_held, left_number, not_number, PlainAt, PlainRow, AllNum, PlainCells, readable, join_cells, GivesNumber, operand_number, register_number, alu_number, swap_result, Follows, after_follows, taken_follows, join_plain, unset_of_one}
 
 -- on some path to slot k the register is not written, and it is not set at the start
@@ -166,19 +167,19 @@ module _ (p : Program) (some : 1 ≤ length p.code) (formed : IsFormed p.code) (
   same_slot : (j k : ℕ) → pos k ≡ pos j → j ≡ k
   same_slot j k e = cc
 
-  edges_plain : (i : ℕ) (names : Names) (pairs : Pairs) (x : Insn) (row : Row) → slice_get p.code i ≡ Some x → slice_get (table p) i ≡ Some (Some row) → IsPlainAt p.profile p.code i row → AllPlain p.profile p.code (named_edges p.profile (callee_in p.sigs x) (sums_at p.code i) pairs names i row x)
+  edges_plain : (i : ℕ) (names : Names) (pairs : Pairs) (x : Insn) (row : Row) → slice_get p.code i ≡ Some x → slice_get (table p) i ≡ Some (Some row) → IsPlainAt p.profile p.code i row → AllPlain p.profile p.code (narrowed_edges p.profile (callee_in p.sigs x) (sums_at p.code i) pairs names i row x)
   edges_plain i names pairs x row at here is =
       let set = reads_set i x row at here is in
       let on = row_on p.profile (callee_in p.sigs x) (sums_at p.code i) pairs row x in
       let taken = row_taken p.profile row x in
       all_append p.profile p.code _ _
-      (next_plain p.profile p.code (next_of i x) (named x p.profile names on) (λ k e. carried p.profile p.code i k x row (named x p.profile names on) at is (successor i k x at (inl e) (next_leads p.code i x k formed starts at e))
-      (named_long names x p.profile p.profile on (told_long p.profile x (sums_at p.code i) _ (summed_long p.profile x pairs _ (after_is_long p.profile (callee_in p.sigs x) row x is.long))))
-      (named_follows p.profile row on x names (told_follows p.profile row _ x (sums_at p.code i) (summed_follows p.profile row _ x pairs (after_follows p.profile (callee_in p.sigs x) row x is.long is.plain is.cells (plain i x at) set))))))
-      (target_plain p.profile p.code (target_of i x) (named x p.profile names taken) (λ k e. let l = target_leads p.code i x (pos k) formed at e in
-      carried p.profile p.code i k x row (named x p.profile names taken) at is (successor i k x at (inr e) (subst (Leads p.code i) (same_slot l.0 k l.1) l.2))
-      (named_long names x p.profile p.profile taken (taken_is_long p.profile row x is.long))
-      (named_follows p.profile row taken x names (taken_follows p.profile row x (pos k) i e is.long is.plain is.cells (plain i x at) set))))
+      (next_plain p.profile p.code (next_of i x) (narrowed x p.profile names pairs on) (λ k e. carried p.profile p.code i k x row (narrowed x p.profile names pairs on) at is (successor i k x at (inl e) (next_leads p.code i x k formed starts at e))
+      (narrowed_long names x p.profile pairs p.profile on (told_long p.profile x (sums_at p.code i) _ (summed_long p.profile x pairs _ (after_is_long p.profile (callee_in p.sigs x) row x is.long))))
+      (narrowed_follows p.profile row on x names pairs (told_follows p.profile row _ x (sums_at p.code i) (summed_follows p.profile row _ x pairs (after_follows p.profile (callee_in p.sigs x) row x is.long is.plain is.cells (plain i x at) set))))))
+      (target_plain p.profile p.code (target_of i x) (narrowed x p.profile names pairs taken) (λ k e. let l = target_leads p.code i x (pos k) formed at e in
+      carried p.profile p.code i k x row (narrowed x p.profile names pairs taken) at is (successor i k x at (inr e) (subst (Leads p.code i) (same_slot l.0 k l.1) l.2))
+      (narrowed_long names x p.profile pairs p.profile taken (taken_is_long p.profile row x is.long))
+      (narrowed_follows p.profile row taken x names pairs (taken_follows p.profile row x (pos k) i e is.long is.plain is.cells (plain i x at) set))))
 
   edges_of_plain : (i : ℕ) (names : Names) (pairs : Pairs) (x : Option Insn) (o : Option (Option Row)) → slice_get p.code i ≡ x → slice_get (table p) i ≡ o → PlainSlot p.profile p.code i o → AllPlain p.profile p.code (edges_of p names pairs i x o)
   edges_of_plain i names pairs None o at here h = tt

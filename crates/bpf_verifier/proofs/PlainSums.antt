@@ -21,10 +21,12 @@ use Rattle.bpf_ranges.specs.Transfer.{address, pointer_left, kinds_left, refine_
 use Rattle.bpf_semantics.specs.declared.Region.{Region}
 use Rattle.bpf_verifier.specs.Registers.{Row, kind_at, one_number, kind_from}
 use Rattle.bpf_verifier.specs.Sums.{KnownSums, most, at_most, operand_at_most, told_by, told, summed}
+use Rattle.bpf_verifier.specs.Paired.{paired}
 use Rattle.bpf_verifier.specs.declared.pair.Pairs.{Pairs}
 use Rattle.bpf_verifier.proofs.Summed.{summed_keeps}
 use Rattle.bpf_verifier.specs.declared.sum.Sum.{Sum}
 use Rattle.bpf_verifier.proofs.SumSteps.{told_keeps}
+use Rattle.bpf_verifier.proofs.PairRows.{paired_keeps}
 use Rattle.bpf_verifier.proofs.PlainRows.{IsNum, IsNumOrUnset, PlainAt, num_or_unset, left_number, not_number, refined_numbers, cells_with_kind, Follows}
 
 -- ---- one kind
@@ -142,3 +144,9 @@ summed_unset profile x pairs row r u = summed_keeps (λ q. kind_at q r ≡ Unset
 
 pub summed_follows : (profile : Profile) (row next : Row) (x : Insn) (pairs : Pairs) → Follows row next x → Follows row (summed x profile pairs next) x
 summed_follows profile row next x pairs f = summed_keeps (λ q. Follows row q x) x profile pairs next f (λ n r _. operand_follows n (operand.Register r) row next x f)
+
+pub paired_unset : (profile : Profile) (x : Insn) (pairs : Pairs) (row : Row) (r : Register) → kind_at row r ≡ Unset → kind_at (paired x profile pairs row) r ≡ Unset
+paired_unset profile x pairs row r u = paired_keeps (λ q. kind_at q r ≡ Unset) x profile pairs row (λ n q next _ e. operand_unset n (operand.Register q) next r e) u
+
+pub paired_follows : (profile : Profile) (row next : Row) (x : Insn) (pairs : Pairs) → Follows row next x → Follows row (paired x profile pairs next) x
+paired_follows profile row next x pairs f = paired_keeps (λ q. Follows row q x) x profile pairs next (λ n r q _ g. operand_follows n (operand.Register r) row q x g) f

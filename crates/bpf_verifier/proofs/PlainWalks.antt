@@ -32,8 +32,9 @@ use Rattle.bpf_verifier.specs.PairSteps.{pairs_at}
 use Rattle.bpf_verifier.specs.declared.pair.Pairs.{Pairs}
 use Rattle.bpf_verifier.specs.Rules.{callee_in, rules_of, class_rules, refined, row_after, row_taken}
 use Rattle.bpf_verifier.specs.Sums.{KnownSums, sums_at, row_on}
-use Rattle.bpf_verifier.specs.Naming.{names_in, named}
-use Rattle.bpf_verifier.specs.Table.{Edge, next_edge, target_edge, named_edges, join_rows, joined, into, edges_of, arrivals, table, broken_with, IsAccepted}
+use Rattle.bpf_verifier.specs.Naming.{names_in}
+use Rattle.bpf_verifier.specs.Paired.{narrowed}
+use Rattle.bpf_verifier.specs.Table.{Edge, next_edge, target_edge, narrowed_edges, join_rows, joined, into, edges_of, arrivals, table, broken_with, IsAccepted}
 use Rattle.bpf_verifier.specs.Plain.{IsIn, WrittenOn, SetAtStart, SetOnPaths, IsPlain, InWindow, StaysInside, IsWellBehaved}
 use Rattle.bpf_verifier.proofs.Shape.{keeps, NextStarts}
 use Rattle.bpf_verifier.proofs.StackCells.{stored_register}
@@ -41,7 +42,7 @@ use Rattle.bpf_verifier.proofs.Classes.{AllNone, none_each, untold, untold_not, 
 use Rattle.bpf_verifier.proofs.SameReads.{reads_less}
 use Rattle.bpf_verifier.proofs.Tables.{table_at}
 use Rattle.bpf_verifier.proofs.PlainSums.{told_unset, summed_unset}
-use Rattle.bpf_verifier.proofs.PlainNames.{named_unset}
+use Rattle.bpf_verifier.proofs.PlainNames.{narrowed_unset}
 use Rattle.bpf_verifier.proofs.PlainRows.{IsNumOrUnset, PlainAt, PlainRow, same_register, at_join, join_unset, unset_join}
 use Rattle.bpf_verifier.proofs.PlainPrograms.{IsPlainAt, PlainSlot, table_plain}
 
@@ -75,14 +76,14 @@ module _ (p : Program) (P : Row → Type 0) (left : (a b : Row) → P a → P (j
   into_new k (e ∷ es) o (inl s) =
       into_old k es _ (subst (λ b. Holds P (cond b (joined p.profile o e.1) o)) (sym (eq-eqb e.0 k s.0)) (joined_new o e.1 s.1))
 
-  arrives : (i n k : ℕ) (x : Insn) (row : Row) → i < n → slice_get p.code i ≡ Some x → slice_get (table p) i ≡ Some (Some row) → SomeEdge P k (named_edges p.profile (callee_in p.sigs x) (sums_at p.code i) (pairs_at p (table p) i) (names_in p (table p) i) i row x) → Holds P (arrivals p (table p) n k)
+  arrives : (i n k : ℕ) (x : Insn) (row : Row) → i < n → slice_get p.code i ≡ Some x → slice_get (table p) i ≡ Some (Some row) → SomeEdge P k (narrowed_edges p.profile (callee_in p.sigs x) (sums_at p.code i) (pairs_at p (table p) i) (names_in p (table p) i) i row x) → Holds P (arrivals p (table p) n k)
   arrives i zero k x row lt at here e = absurd (omega arith)
   arrives i (suc n) k x row lt at here e =
       ⊎_elim
       (λ same. let at' = ap (slice_get p.code) (sym same) ∙ at in
       let here' = ap (slice_get (table p)) (sym same) ∙ here in
       into_new k (edges_of p (names_in p (table p) n) (pairs_at p (table p) n) n (slice_get p.code n) (slice_get (table p) n)) (arrivals p (table p) n k)
-      (subst (λ o. SomeEdge P k (edges_of p (names_in p (table p) n) (pairs_at p (table p) n) n o (slice_get (table p) n))) (sym at') (subst (λ o. SomeEdge P k (edges_of p (names_in p (table p) n) (pairs_at p (table p) n) n (Some x) o)) (sym here') (subst (λ j. SomeEdge P k (named_edges p.profile (callee_in p.sigs x) (sums_at p.code j) (pairs_at p (table p) j) (names_in p (table p) j) j row x)) same e))))
+      (subst (λ o. SomeEdge P k (edges_of p (names_in p (table p) n) (pairs_at p (table p) n) n o (slice_get (table p) n))) (sym at') (subst (λ o. SomeEdge P k (edges_of p (names_in p (table p) n) (pairs_at p (table p) n) n (Some x) o)) (sym here') (subst (λ j. SomeEdge P k (narrowed_edges p.profile (callee_in p.sigs x) (sums_at p.code j) (pairs_at p (table p) j) (names_in p (table p) j) j row x)) same e))))
       (λ other. into_old k (edges_of p (names_in p (table p) n) (pairs_at p (table p) n) n (slice_get p.code n) (slice_get (table p) n)) (arrivals p (table p) n k) (arrives i n k x row (omega arith) at here e))
       (cases_eq i n)
 
@@ -96,12 +97,12 @@ some_right P k [] fs h = h
 some_right P k (e ∷ es) fs h = inr (some_right P k es fs h)
 
 -- the edge by which an instruction goes to a slot
-edge_to : (profile : Profile) (callee : Callee) (sums : KnownSums) (pairs : Pairs) (names : Names) (P : Row → Type 0) (i k : ℕ) (row : Row) (x : Insn) → GoesTo i x k → P (named x profile names (row_on profile callee sums pairs row x)) → P (named x profile names (row_taken profile row x)) → SomeEdge P k (named_edges profile callee sums pairs names i row x)
+edge_to : (profile : Profile) (callee : Callee) (sums : KnownSums) (pairs : Pairs) (names : Names) (P : Row → Type 0) (i k : ℕ) (row : Row) (x : Insn) → GoesTo i x k → P (narrowed x profile names pairs (row_on profile callee sums pairs row x)) → P (narrowed x profile names pairs (row_taken profile row x)) → SomeEdge P k (narrowed_edges profile callee sums pairs names i row x)
 edge_to profile callee sums pairs names P i k row x (inl e) a t =
-    let next = named x profile names (row_on profile callee sums pairs row x) in
+    let next = narrowed x profile names pairs (row_on profile callee sums pairs row x) in
     some_left P k (next_edge (next_of i x) next) _ (subst (λ o. SomeEdge P k (next_edge o next)) (sym e) (inl (refl, a)))
 edge_to profile callee sums pairs names P i k row x (inr e) a t =
-    some_right P k (next_edge (next_of i x) (named x profile names (row_on profile callee sums pairs row x))) _ (subst (λ o. SomeEdge P k (target_edge o (named x profile names (row_taken profile row x)))) (sym e) (inl (refl, t)))
+    some_right P k (next_edge (next_of i x) (narrowed x profile names pairs (row_on profile callee sums pairs row x))) _ (subst (λ o. SomeEdge P k (target_edge o (narrowed x profile names pairs (row_taken profile row x)))) (sym e) (inl (refl, t)))
 
 some_row : (o : Option Row) (P : Row → Type 0) → Holds P o → (row : Row) × (o ≡ Some row) × P row
 some_row None P h = absurd h
@@ -226,7 +227,7 @@ module _ (p : Program) (some : 1 ≤ length p.code) (accepted : IsAccepted p) wh
       (λ done. inl (⊎_elim (λ w. inl (inr w)) (λ t. inr t) done))
       (λ u. ⊎_elim
       (λ w. inl (inl (inl (s.0, s.1, w))))
-      (λ a. let edge = edge_to p.profile (callee_in p.sigs s.0) (sums_at p.code i) (pairs_at p (table p) i) (names_in p (table p) i) P i j before.0 s.0 s.2 (named_unset p.profile s.0 (names_in p (table p) i) _ r (told_unset p.profile s.0 (sums_at p.code i) _ r (summed_unset p.profile s.0 (pairs_at p (table p) i) _ r a))) (named_unset p.profile s.0 (names_in p (table p) i) _ r (taken_unset p.profile before.0 s.0 r set u)) in
+      (λ a. let edge = edge_to p.profile (callee_in p.sigs s.0) (sums_at p.code i) (pairs_at p (table p) i) (names_in p (table p) i) P i j before.0 s.0 s.2 (narrowed_unset p.profile s.0 (names_in p (table p) i) (pairs_at p (table p) i) _ r (told_unset p.profile s.0 (sums_at p.code i) _ r (summed_unset p.profile s.0 (pairs_at p (table p) i) _ r a))) (narrowed_unset p.profile s.0 (names_in p (table p) i) (pairs_at p (table p) i) _ r (taken_unset p.profile before.0 s.0 r set u)) in
       let here' = some_row (arrivals p (table p) j j) P (arrives p P (unset_left p.profile r) (unset_right p.profile r) i j j s.0 before.0 s.3 s.1 before.1 edge) in
       let is = same_rows (slice_get (table p) j) (Some row) (Some here'.0) here (table_at p j (within j s.4.0 s.4.1) ∙ ap Some here'.1) in
       inr (ap (λ q. kind_at q r) (same_Some _ _ is) ∙ here'.2))

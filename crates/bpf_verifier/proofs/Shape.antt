@@ -19,8 +19,8 @@ use Rattle.bpf_verifier.specs.Sums.{KnownSums, row_on}
 use Rattle.bpf_verifier.specs.declared.pair.Pairs.{Pairs}
 use Rattle.bpf_verifier.specs.Rows.{LeadBelow}
 use Rattle.bpf_copies.specs.Names.{Names}
-use Rattle.bpf_verifier.specs.Naming.{named}
-use Rattle.bpf_verifier.specs.Table.{Edge, next_edge, target_edge, named_edges}
+use Rattle.bpf_verifier.specs.Paired.{narrowed}
+use Rattle.bpf_verifier.specs.Table.{Edge, next_edge, target_edge, narrowed_edges}
 
 -- an instruction of formed code keeps each rule
 pub keeps : (code : List Insn) (i : ℕ) (x : Insn) (rule : FormRule) → IsFormed code → slice_get code i ≡ Some x → ¬ BreaksRule rule code i x
@@ -156,9 +156,9 @@ target_all code i (Some (pos k)) row h = let l = h (pos k) refl in (subst (Leads
 target_all code i (Some (negsuc k)) row h = tt
 
 -- every edge of an instruction leads to a higher slot that starts one
-pub edges_lead : (profile : Profile) (callee : Callee) (sums : KnownSums) (pairs : Pairs) (names : Names) (code : List Insn) (i : ℕ) (x : Insn) (row : Row) → IsFormed code → NextStarts code → slice_get code i ≡ Some x → AllLead code i (named_edges profile callee sums pairs names i row x)
+pub edges_lead : (profile : Profile) (callee : Callee) (sums : KnownSums) (pairs : Pairs) (names : Names) (code : List Insn) (i : ℕ) (x : Insn) (row : Row) → IsFormed code → NextStarts code → slice_get code i ≡ Some x → AllLead code i (narrowed_edges profile callee sums pairs names i row x)
 edges_lead profile callee sums pairs names code i x row formed starts at =
-    all_append code i _ _ (next_all code i (next_of i x) (named x profile names (row_on profile callee sums pairs row x)) (λ k e. next_leads code i x k formed starts at e)) (target_all code i (target_of i x) (named x profile names (row_taken profile row x)) (λ z e. target_leads code i x z formed at e))
+    all_append code i _ _ (next_all code i (next_of i x) (narrowed x profile names pairs (row_on profile callee sums pairs row x)) (λ k e. next_leads code i x k formed starts at e)) (target_all code i (target_of i x) (narrowed x profile names pairs (row_taken profile row x)) (λ z e. target_leads code i x z formed at e))
 
 pub target_edge_at : (z : ℤ) (k : ℕ) (row : Row) → z ≡ pos k → target_edge (Some z) row ≡ (k, row) ∷ []
 target_edge_at z k row e = ap (λ y. target_edge (Some y) row) e

@@ -40,8 +40,9 @@ use Rattle.bpf_verifier.proofs.Together.{HoldPairs}
 use Rattle.bpf_verifier.proofs.PairRuns.{pairs_held}
 use Rattle.bpf_verifier.specs.Rules.{callee_in, loaded, row_after, row_taken, rules_of}
 use Rattle.bpf_verifier.specs.Sums.{least, most, sums_at, row_on}
-use Rattle.bpf_verifier.specs.Naming.{bounds_of, bounds_at, names_in, named}
-use Rattle.bpf_verifier.specs.Table.{Edge, next_edge, target_edge, named_edges, edges_of, arrivals, table, broken_with, IsAccepted, AreKinds}
+use Rattle.bpf_verifier.specs.Naming.{bounds_of, bounds_at, names_in}
+use Rattle.bpf_verifier.specs.Paired.{narrowed}
+use Rattle.bpf_verifier.specs.Table.{Edge, next_edge, target_edge, narrowed_edges, edges_of, arrivals, table, broken_with, IsAccepted, AreKinds}
 use Rattle.bpf_verifier.proofs.Words.{wrapped_below, size_fits, bytes_zero}
 use Rattle.bpf_verifier.proofs.RowSteps.{kinds_set, kinds_drop}
 use Rattle.bpf_verifier.proofs.StackCells.{values, has_eleven, stored_long, written_long, stored_kinds, written_kinds, read_kinds, zero_cells, zero_bytes}
@@ -54,8 +55,8 @@ use Rattle.bpf_verifier.proofs.Summed.{summed_long, summed_kinds}
 use Rattle.bpf_verifier.proofs.Shape.{IsPaired, Leads, AllLead, paired_starts, edges_lead, target_leads}
 use Rattle.bpf_verifier.proofs.Places.{IsMemory}
 use Rattle.bpf_verifier.proofs.Classes.{AllNone, none_each, result_is_kind, at_number, no_fault, lands}
-use Rattle.bpf_verifier.proofs.NamedRows.{named_long, named_kinds}
-use Rattle.bpf_verifier.proofs.NamedEdges.{named_lands}
+use Rattle.bpf_verifier.proofs.PairRows.{narrowed_long, narrowed_kinds}
+use Rattle.bpf_verifier.proofs.NarrowedEdges.{narrowed_lands}
 use Rattle.bpf_verifier.proofs.Counting.{starts_there, counted, counted_all}
 use Rattle.bpf_verifier.proofs.Tables.{length_rows, table_at}
 
@@ -164,14 +165,14 @@ module _ (sound : (profile : Profile) → IsSoundTable profile) (p : Program) (l
   pub taken_row : (row : Row) (x : Insn) → IsRow p.profile row → IsRow p.profile (row_taken p.profile row x)
   taken_row row x h = record { long = taken_is_long p.profile row x h.long; kinds = taken_kinds p.profile (sound p.profile) row x h.kinds }
 
-  named_row : (names : Names) (x : Insn) (row : Row) → IsRow p.profile row → IsRow p.profile (named x p.profile names row)
-  named_row names x row h = record { long = named_long names x p.profile p.profile row h.long; kinds = named_kinds (sound Second) names x p.profile row h.kinds }
+  narrowed_row : (names : Names) (pairs : Pairs) (x : Insn) (row : Row) → IsRow p.profile row → IsRow p.profile (narrowed x p.profile names pairs row)
+  narrowed_row names pairs x row h = record { long = narrowed_long names x p.profile pairs p.profile row h.long; kinds = narrowed_kinds (sound Second) names x p.profile pairs row h.kinds }
 
-  edge_rows : (i : ℕ) (names : Names) (pairs : Pairs) (row : Row) (x : Insn) → (x ≢ insn.Tail → IsInstruction x) → IsRow p.profile row → AreRows p.profile (named_edges p.profile (callee_in p.sigs x) (sums_at p.code i) pairs names i row x)
+  edge_rows : (i : ℕ) (names : Names) (pairs : Pairs) (row : Row) (x : Insn) → (x ≢ insn.Tail → IsInstruction x) → IsRow p.profile row → AreRows p.profile (narrowed_edges p.profile (callee_in p.sigs x) (sums_at p.code i) pairs names i row x)
   edge_rows i names pairs row x is h =
       rows_append p.profile _ _
-      (next_rows p.profile (next_of i x) (named x p.profile names (row_on p.profile (callee_in p.sigs x) (sums_at p.code i) pairs row x)) (named_row names x _ (on_row pairs i row x is h)))
-      (target_rows p.profile (target_of i x) (named x p.profile names (row_taken p.profile row x)) (named_row names x _ (taken_row row x h)))
+      (next_rows p.profile (next_of i x) (narrowed x p.profile names pairs (row_on p.profile (callee_in p.sigs x) (sums_at p.code i) pairs row x)) (narrowed_row names pairs x _ (on_row pairs i row x is h)))
+      (target_rows p.profile (target_of i x) (narrowed x p.profile names pairs (row_taken p.profile row x)) (narrowed_row names pairs x _ (taken_row row x h)))
 
   edges_are_rows : (i : ℕ) (names : Names) (pairs : Pairs) (x : Option Insn) (row : Option (Option Row)) → slice_get p.code i ≡ x → IsRowAt p.profile row → AreRows p.profile (edges_of p names pairs i x row)
   edges_are_rows i names pairs None row at h = tt
@@ -222,7 +223,7 @@ module _ (sound : (profile : Profile) → IsSoundTable profile) (p : Program) (l
 
   -- ---- an edge is joined into its slot's row
 
-  arrives : (i n k : ℕ) (x : Insn) (row : Row) (vs : List (Option ℕ)) → i < n → slice_get p.code i ≡ Some x → slice_get (table p) i ≡ Some (Some row) → SomeEdge (pos k) vs (named_edges p.profile (callee_in p.sigs x) (sums_at p.code i) (pairs_at p (table p) i) (names_in p (table p) i) i row x) → FitsSome (arrivals p (table p) n k) vs
+  arrives : (i n k : ℕ) (x : Insn) (row : Row) (vs : List (Option ℕ)) → i < n → slice_get p.code i ≡ Some x → slice_get (table p) i ≡ Some (Some row) → SomeEdge (pos k) vs (narrowed_edges p.profile (callee_in p.sigs x) (sums_at p.code i) (pairs_at p (table p) i) (names_in p (table p) i) i row x) → FitsSome (arrivals p (table p) n k) vs
   arrives i zero k x row vs lt at here e = absurd (omega arith)
   arrives i (suc n) k x row vs lt at here e =
       let all : (m : ℕ) → IsRowAt p.profile (slice_get (table p) m) = λ m. table_rows (suc m) m (omega arith) in
@@ -232,7 +233,7 @@ module _ (sound : (profile : Profile) → IsSoundTable profile) (p : Program) (l
       (λ same. let at' = ap (slice_get p.code) (sym same) ∙ at in
       let here' = ap (slice_get (table p)) (sym same) ∙ here in
       into_new p.profile (sound p.profile) k _ _ vs edges before
-      (subst (λ o. SomeEdge (pos k) vs (edges_of p (names_in p (table p) n) (pairs_at p (table p) n) n o (slice_get (table p) n))) (sym at') (subst (λ o. SomeEdge (pos k) vs (edges_of p (names_in p (table p) n) (pairs_at p (table p) n) n (Some x) o)) (sym here') (subst (λ j. SomeEdge (pos k) vs (named_edges p.profile (callee_in p.sigs x) (sums_at p.code j) (pairs_at p (table p) j) (names_in p (table p) j) j row x)) same e))))
+      (subst (λ o. SomeEdge (pos k) vs (edges_of p (names_in p (table p) n) (pairs_at p (table p) n) n o (slice_get (table p) n))) (sym at') (subst (λ o. SomeEdge (pos k) vs (edges_of p (names_in p (table p) n) (pairs_at p (table p) n) n (Some x) o)) (sym here') (subst (λ j. SomeEdge (pos k) vs (narrowed_edges p.profile (callee_in p.sigs x) (sums_at p.code j) (pairs_at p (table p) j) (names_in p (table p) j) j row x)) same e))))
       (λ other. into_old p.profile (sound p.profile) k _ _ vs edges before (arrives i n k x row vs (omega arith) at here e))
       (cases_eq i n)
 
@@ -285,13 +286,13 @@ module _ (sound : (profile : Profile) → IsSoundTable profile) (p : Program) (l
       let same : e.0 ≡ g.here = same_Some _ _ (sym e.1 ∙ there n s g) in
       no_fault sound p g.at g.row s limits (row_kinds sound p limits paired g.at g.row g.kinds) (row_long sound p limits paired g.at g.row g.kinds) g.fits g.slot g.memory (sums_at p.code g.at) g.holds (pairs_at p (table p) g.at) g.together e.0 (subst (λ x. AllNone (rules_of p (pairs_at p (table p) g.at) g.row x)) (sym same) (rules_kept n s g)) f e.2.stands
 
-  goes_on : (n : ℕ) (s : State) (g : Stands p n s) (t : State) → SomeEdge t.slot (values p.profile t) (named_edges p.profile (callee_in p.sigs g.here) (sums_at p.code g.at) (pairs_at p (table p) g.at) (names_in p (table p) g.at) g.at g.row g.here) → IsMemory p t.memory → ((k : ℕ) → g.at < k → t.slot ≡ pos k → AllHold (sums_at p.code k) t) → ((k : ℕ) → g.at < k → t.slot ≡ pos k → HoldPairs (pairs_at p (table p) k) t) → ((k : ℕ) → g.at < k → t.slot ≡ pos k → Stand k (names_in p (table p) k) t) → Stands p (suc n) t
+  goes_on : (n : ℕ) (s : State) (g : Stands p n s) (t : State) → SomeEdge t.slot (values p.profile t) (narrowed_edges p.profile (callee_in p.sigs g.here) (sums_at p.code g.at) (pairs_at p (table p) g.at) (names_in p (table p) g.at) g.at g.row g.here) → IsMemory p t.memory → ((k : ℕ) → g.at < k → t.slot ≡ pos k → AllHold (sums_at p.code k) t) → ((k : ℕ) → g.at < k → t.slot ≡ pos k → HoldPairs (pairs_at p (table p) k) t) → ((k : ℕ) → g.at < k → t.slot ≡ pos k → Stand k (names_in p (table p) k) t) → Stands p (suc n) t
   goes_on n s g t e m held paired_up stand =
-      let to = lead_any p g.at (named_edges p.profile (callee_in p.sigs g.here) (sums_at p.code g.at) (pairs_at p (table p) g.at) (names_in p (table p) g.at) g.at g.row g.here) t.slot (values p.profile t) (edges_lead p.profile (callee_in p.sigs g.here) (sums_at p.code g.at) (pairs_at p (table p) g.at) (names_in p (table p) g.at) p.code g.at g.here g.row accepted.formed (paired_starts p.code paired) g.found) e in
+      let to = lead_any p g.at (narrowed_edges p.profile (callee_in p.sigs g.here) (sums_at p.code g.at) (pairs_at p (table p) g.at) (names_in p (table p) g.at) g.at g.row g.here) t.slot (values p.profile t) (edges_lead p.profile (callee_in p.sigs g.here) (sums_at p.code g.at) (pairs_at p (table p) g.at) (names_in p (table p) g.at) p.code g.at g.here g.row accepted.formed (paired_starts p.code paired) g.found) e in
       let k = to.0 in
       let l = to.2 in
       let within = slice_get_within p.code k l.to l.there in
-      let arrived = arrives sound p limits paired g.at k k g.here g.row (values p.profile t) l.above g.found g.kinds (subst (λ z. SomeEdge z (values p.profile t) (named_edges p.profile (callee_in p.sigs g.here) (sums_at p.code g.at) (pairs_at p (table p) g.at) (names_in p (table p) g.at) g.at g.row g.here)) to.1 e) in
+      let arrived = arrives sound p limits paired g.at k k g.here g.row (values p.profile t) l.above g.found g.kinds (subst (λ z. SomeEdge z (values p.profile t) (narrowed_edges p.profile (callee_in p.sigs g.here) (sums_at p.code g.at) (pairs_at p (table p) g.at) (names_in p (table p) g.at) g.at g.row g.here)) to.1 e) in
       let next = stand_at p k (arrivals p (table p) k k) (values p.profile t) (table_at p k within) arrived in
       record {
         at = k;
@@ -329,7 +330,7 @@ module _ (sound : (profile : Profile) → IsSoundTable profile) (p : Program) (l
       let l = lands sound p g.at g.row s limits (row_kinds sound p limits paired g.at g.row g.kinds) (row_long sound p limits paired g.at g.row g.kinds) g.fits g.slot g.memory (sums_at p.code g.at) g.holds (pairs_at p (table p) g.at) g.together g.here t (paired.instructions g.at g.here g.found g.starts) to (rules_kept n s g) row in
       let is_row : IsRow p.profile g.row = record { long = long; kinds = row_kinds sound p limits paired g.at g.row g.kinds } in
       goes_on n s g t
-      (named_lands (sound Second) p.profile (calls_of p.sigs) (callee_in p.sigs g.here) (sums_at p.code g.at) (pairs_at p (table p) g.at) (names_in p (table p) g.at) g.at g.row s t g.names.named g.here row
+      (narrowed_lands (sound Second) p.profile (calls_of p.sigs) (callee_in p.sigs g.here) (sums_at p.code g.at) (pairs_at p (table p) g.at) (names_in p (table p) g.at) g.at g.row s t g.names.named g.together g.here row
       (on_row sound p limits paired (pairs_at p (table p) g.at) g.at g.row g.here (paired.instructions g.at g.here g.found) is_row) (taken_row sound p limits paired g.row g.here is_row) l.0)
       l.1
       (λ k above slot. held_at (calls_of p.sigs) p.code s g.at g.slot (has_eleven p.profile g.row s long g.fits) (λ r. (number_word r).1) g.holds (λ dst n. paired.after_wide g.at n dst) k g.here t above g.found slot row)

@@ -1,5 +1,5 @@
 -- What pairs of registers say of a state, and the ends that they tell.
-use Rattle.std.proofs.Common.{◌≡◌, ℕ, ◌+◌, ◌≤◌, Bool, true, false, ◌||◌, ◌&&◌, eqb, List, [], ◌∷◌, Option, Some, None, refl, ap, inl, inr, ⊎_elim, arith}
+use Rattle.std.proofs.Common.{◌≡◌, ℕ, ◌+◌, ◌≤◌, Bool, true, false, ◌||◌, ◌&&◌, eqb, List, [], ◌∷◌, Option, Some, None, refl, sym, ap, subst, inl, inr, ⊎_elim, arith}
 use Rattle.std.specs.Prelude.{◌⊎◌, map, slice_get, unwrap_or}
 use Rattle.std.proofs.lemmas.Bool.{cond_both, eqb-true, and_parts}
 use Rattle.bpf_insn.specs.Encoding.{number}
@@ -21,6 +21,14 @@ pub record HoldPairs (pairs : Pairs) (s : State) : Type 0 where
   pub second : PairHolds pairs.second s
   pub third : PairHolds pairs.third s
   pub fourth : PairHolds pairs.fourth s
+
+-- what pairs say of registers alone
+same_pair : (pair : Option Pair) (s t : State) → t.registers ≡ s.registers → PairHolds pair s → PairHolds pair t
+same_pair None s t e h = tt
+same_pair (Some pair) s t e h = subst (λ rs. PairHolds (Some pair) (record s { registers = rs })) (sym e) h
+
+pub same_pairs : (pairs : Pairs) (s t : State) → t.registers ≡ s.registers → HoldPairs pairs s → HoldPairs pairs t
+same_pairs pairs s t e h = record { first = same_pair pairs.first s t e h.first; second = same_pair pairs.second s t e h.second; third = same_pair pairs.third s t e h.third; fourth = same_pair pairs.fourth s t e h.fourth }
 
 -- two numbers are at most an end together, if it is known
 abbrev pub IsEnd : Option ℕ → ℕ → ℕ → Type 0

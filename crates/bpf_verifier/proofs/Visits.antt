@@ -26,7 +26,8 @@ use Rattle.bpf_verifier.specs.Sums.{KnownSums, sums_at, row_on}
 use Rattle.bpf_verifier.specs.Rows.{row_at, pushed, Misses, IsPass}
 use Rattle.bpf_copies.specs.declared.bounds.Bounds.{Bounds}
 use Rattle.bpf_verifier.specs.Naming.{bounds_of, bounds_at, names_in, named}
-use Rattle.bpf_verifier.specs.Table.{Edge, joined, next_edge, target_edge, named_edges, edges_of, table, broken_with, broken_at, IsAccepted}
+use Rattle.bpf_verifier.specs.Paired.{paired, narrowed}
+use Rattle.bpf_verifier.specs.Table.{Edge, joined, next_edge, target_edge, narrowed_edges, edges_of, table, broken_with, broken_at, IsAccepted}
 use Rattle.bpf_verifier.specs.declared.rule.KindRule.{KindRule}
 use Rattle.bpf_verifier.proofs.Tables.{row_here, row_there, length_pushed, pass_all, pass_alone, pass_taken}
 
@@ -52,10 +53,13 @@ same_named First insn.Exit names others row h = refl
 same_named First (insn.Wide d n) names others row h = refl
 same_named First insn.Tail names others row h = refl
 
-same_edges : (profile : Profile) (callee : Callee) (sums : KnownSums) (pairs : Pairs) (names others : Names) (i : ℕ) (row : Row) (x : Insn) → (profile ≡ Second → names ≡ others) → named_edges profile callee sums pairs names i row x ≡ named_edges profile callee sums pairs others i row x
+same_narrowed : (profile : Profile) (x : Insn) (names others : Names) (pairs : Pairs) (row : Row) → (profile ≡ Second → names ≡ others) → narrowed x profile names pairs row ≡ narrowed x profile others pairs row
+same_narrowed profile x names others pairs row h = ap (paired x profile pairs) (same_named profile x names others row h)
+
+same_edges : (profile : Profile) (callee : Callee) (sums : KnownSums) (pairs : Pairs) (names others : Names) (i : ℕ) (row : Row) (x : Insn) → (profile ≡ Second → names ≡ others) → narrowed_edges profile callee sums pairs names i row x ≡ narrowed_edges profile callee sums pairs others i row x
 same_edges profile callee sums pairs names others i row x h =
-    ap (λ r. next_edge (next_of i x) r ++ target_edge (target_of i x) (named x profile names (row_taken profile row x))) (same_named profile x names others (row_on profile callee sums pairs row x) h)
-    ∙ ap (λ r. next_edge (next_of i x) (named x profile others (row_on profile callee sums pairs row x)) ++ target_edge (target_of i x) r) (same_named profile x names others (row_taken profile row x) h)
+    ap (λ r. next_edge (next_of i x) r ++ target_edge (target_of i x) (narrowed x profile names pairs (row_taken profile row x))) (same_narrowed profile x names others pairs (row_on profile callee sums pairs row x) h)
+    ∙ ap (λ r. next_edge (next_of i x) (narrowed x profile others pairs (row_on profile callee sums pairs row x)) ++ target_edge (target_of i x) r) (same_narrowed profile x names others pairs (row_taken profile row x) h)
 
 module _ (p : Program) (rows : List (Option Row)) (i : ℕ) (within : i < length p.code) where
   -- within which bounds its operand is
@@ -92,21 +96,21 @@ module _ (p : Program) (rows : List (Option Row)) (i : ℕ) (within : i < length
         ∙ ap (λ o. pairs_next p (Some x) sums o pairs) (sym (row_here p rows (Some row) i pass within))
         ∙ ap (λ o. pairs_next p o sums (slice_get (table p) i) pairs) (sym at)
 
-    edges_here : named_edges p.profile (callee_in p.sigs x) (sums_at p.code i) (pairs_at p (table p) i) (names_in p (table p) i) i row x ≡ edges_of p (names_in p (table p) i) (pairs_at p (table p) i) i (slice_get p.code i) (slice_get (table p) i)
+    edges_here : narrowed_edges p.profile (callee_in p.sigs x) (sums_at p.code i) (pairs_at p (table p) i) (names_in p (table p) i) i row x ≡ edges_of p (names_in p (table p) i) (pairs_at p (table p) i) i (slice_get p.code i) (slice_get (table p) i)
     edges_here =
         let names = names_in p (table p) i in
         let pairs = pairs_at p (table p) i in
         ap (λ r. edges_of p names pairs i (Some x) r) (sym (row_here p rows (Some row) i pass within)) ∙ ap (λ o. edges_of p names pairs i o (slice_get (table p) i)) (sym at)
 
     -- its edges, of which the first is that of the next slot
-    module _ (callee : Callee) (sums : KnownSums) (pairs : Pairs) (names : Names) (after : Row) (fs : List Edge) (called : callee ≡ callee_in p.sigs x) (told : sums ≡ sums_at p.code i) (paired : pairs ≡ pairs_at p (table p) i) (given : p.profile ≡ Second → names ≡ names_in p (table p) i) (goes : after ≡ named x p.profile names (row_on p.profile callee sums pairs row x)) (takes : fs ≡ target_edge (target_of i x) (named x p.profile names (row_taken p.profile row x))) where
-      edges_are : next_edge (next_of i x) after ++ fs ≡ named_edges p.profile (callee_in p.sigs x) (sums_at p.code i) (pairs_at p (table p) i) (names_in p (table p) i) i row x
+    module _ (callee : Callee) (sums : KnownSums) (pairs : Pairs) (names : Names) (after : Row) (fs : List Edge) (called : callee ≡ callee_in p.sigs x) (told : sums ≡ sums_at p.code i) (known : pairs ≡ pairs_at p (table p) i) (given : p.profile ≡ Second → names ≡ names_in p (table p) i) (goes : after ≡ narrowed x p.profile names pairs (row_on p.profile callee sums pairs row x)) (takes : fs ≡ target_edge (target_of i x) (narrowed x p.profile names pairs (row_taken p.profile row x))) where
+      edges_are : next_edge (next_of i x) after ++ fs ≡ narrowed_edges p.profile (callee_in p.sigs x) (sums_at p.code i) (pairs_at p (table p) i) (names_in p (table p) i) i row x
       edges_are =
           ap (λ r. next_edge (next_of i x) r ++ fs) goes
-          ∙ ap (λ es. next_edge (next_of i x) (named x p.profile names (row_on p.profile callee sums pairs row x)) ++ es) takes
-          ∙ ap (λ y. named_edges p.profile y sums pairs names i row x) called
-          ∙ ap (λ y. named_edges p.profile (callee_in p.sigs x) y pairs names i row x) told
-          ∙ ap (λ y. named_edges p.profile (callee_in p.sigs x) (sums_at p.code i) y names i row x) paired
+          ∙ ap (λ es. next_edge (next_of i x) (narrowed x p.profile names pairs (row_on p.profile callee sums pairs row x)) ++ es) takes
+          ∙ ap (λ y. narrowed_edges p.profile y sums pairs names i row x) called
+          ∙ ap (λ y. narrowed_edges p.profile (callee_in p.sigs x) y pairs names i row x) told
+          ∙ ap (λ y. narrowed_edges p.profile (callee_in p.sigs x) (sums_at p.code i) y names i row x) known
           ∙ same_edges p.profile (callee_in p.sigs x) (sums_at p.code i) (pairs_at p (table p) i) names (names_in p (table p) i) i row x given
 
       pub all_here : (rows' : List (Option Row)) → rows' ≡ pushed p.profile rows (next_edge (next_of i x) after ++ fs) → IsPass p rows' (row_at rows' (i + 1)) (i + 1)

@@ -10,6 +10,7 @@ pub mod Rules
 pub mod Sums
 pub mod Naming
 pub mod PairSteps
+pub mod Paired
 pub mod Table
 pub mod Rows
 pub mod Waiting

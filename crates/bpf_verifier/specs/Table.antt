@@ -12,7 +12,8 @@ use Rattle.bpf_verifier.specs.Registers.{Row, entry}
 use Rattle.bpf_helpers.specs.Calls.{Callee}
 use Rattle.bpf_verifier.specs.Rules.{callee_in, row_taken, broken_in}
 use Rattle.bpf_verifier.specs.Sums.{KnownSums, sums_at, row_on}
-use Rattle.bpf_verifier.specs.Naming.{names_in, named}
+use Rattle.bpf_verifier.specs.Naming.{names_in}
+use Rattle.bpf_verifier.specs.Paired.{narrowed}
 use Rattle.bpf_verifier.specs.PairSteps.{pairs_at}
 use Rattle.bpf_verifier.specs.declared.pair.Pairs.{Pairs}
 use Rattle.bpf_verifier.specs.declared.rule.KindRule.{KindRule}
@@ -38,10 +39,10 @@ abbrev pub edges_from : Profile → Callee → KnownSums → Pairs → ℕ → R
 edges_from profile callee sums pairs i row x =
     next_edge (next_of i x) (row_on profile callee sums pairs row x) ++ target_edge (target_of i x) (row_taken profile row x)
 
--- and with what the names before it tell, on both ways
-abbrev pub named_edges : Profile → Callee → KnownSums → Pairs → Names → ℕ → Row → Insn → List Edge
-named_edges profile callee sums pairs names i row x =
-    next_edge (next_of i x) (named x profile names (row_on profile callee sums pairs row x)) ++ target_edge (target_of i x) (named x profile names (row_taken profile row x))
+-- and with what the names and the pairs before it tell, on both ways
+abbrev pub narrowed_edges : Profile → Callee → KnownSums → Pairs → Names → ℕ → Row → Insn → List Edge
+narrowed_edges profile callee sums pairs names i row x =
+    next_edge (next_of i x) (narrowed x profile names pairs (row_on profile callee sums pairs row x)) ++ target_edge (target_of i x) (narrowed x profile names pairs (row_taken profile row x))
 
 -- ---- joins
 
@@ -63,7 +64,7 @@ into profile k (e ∷ es) before = into profile k es (if e.0 == k then joined pr
 
 -- the edges of slot i, if some row of kinds reaches it, with the names and the pairs that are known there by the rows of lower slots
 abbrev pub edges_of : Program → Names → Pairs → ℕ → Option Insn → Option (Option Row) → List Edge
-edges_of p names pairs i (Some x) (Some (Some row)) = named_edges p.profile (callee_in p.sigs x) (sums_at p.code i) pairs names i row x
+edges_of p names pairs i (Some x) (Some (Some row)) = narrowed_edges p.profile (callee_in p.sigs x) (sums_at p.code i) pairs names i row x
 edges_of p names pairs i x row = []
 
 -- the join over all edges into slot k from the first n slots of a table; slot 0 has the entry too

@@ -3,7 +3,7 @@
 ghost use Rattle.std.specs.Prelude.{◌≡◌, ◌<◌, ◌≤◌, ◌+◌, ◌++◌, ℕ, ℤ, IfOk, true, false, pos, Some, None, length, slice_set};
 ghost use Rattle.bpf_image.specs.Form.{next_of, target_of};
 ghost use Rattle.bpf_verifier.specs.Rules.{row_taken};
-ghost use Rattle.bpf_verifier.specs.Naming.{named};
+ghost use Rattle.bpf_verifier.specs.Paired.{narrowed};
 ghost use Rattle.bpf_verifier.specs.Table.{join_rows, joined, next_edge, target_edge, AreKinds};
 ghost use Rattle.bpf_verifier.specs.Registers.{one_number};
 ghost use Rattle.bpf_ranges.specs.Kinds.{IsKind};
@@ -13,7 +13,8 @@ ghost use Rattle.bpf_verifier.specs.Waiting.{waiting, AreOwned, IsPool};
 ghost use Rattle.bpf_semantics.specs.declared.profile.Profile.{Profile};
 
 use crate::kinds::{one_number, write_taken};
-use crate::naming::tell_named;
+use crate::pair::Pairs;
+use crate::pairs::narrow;
 use crate::waiting::Waiting;
 use bpf_copies::Name;
 use bpf_image::form::{next_of, target_of};
@@ -198,15 +199,16 @@ pub fn taken_edge<const N: usize>(
     }
 }
 
-/// The edge of a jump: where it leads. The kinds that it brings there, with what names tell of them, are written over a row, whose cells
-/// before a place are the zero before and after.
-pub fn named_edge<const N: usize>(
+/// The edge of a jump: where it leads. The kinds that it brings there, with what names and pairs tell of them, are written over a row, whose
+/// cells before a place are the zero before and after.
+pub fn narrowed_edge<const N: usize>(
     profile: Profile,
     low: usize,
     at: usize,
     row: &[Kind; N],
     insn: Insn,
     names: &[Name; 11],
+    pairs: Pairs,
     taken: &mut [Kind; N],
 ) -> Option<usize>
     requires registers { 11 ≤ low }
@@ -215,12 +217,12 @@ pub fn named_edge<const N: usize>(
     requires ahead { (z : ℤ) → target_of at insn ≡ Some z → (k : ℕ) × (z ≡ pos k) }
     requires known { IsKnown profile low row.now }
     requires zeros { StartsZero profile low taken.old }
-    ensures edge { edge_list result taken.new ≡ target_edge (target_of at insn) (named insn profile names.now (row_taken profile row.now insn)) }
+    ensures edge { edge_list result taken.new ≡ target_edge (target_of at insn) (narrowed insn profile names.now pairs (row_taken profile row.now insn)) }
     ensures known { HaveKinds profile low (edge_list result taken.new) }
     ensures zeros { StartsZero profile low taken.new }
 {
     let target = taken_edge(profile, low, at, row, insn, taken)?;
-    tell_named(insn, profile, names, taken);
+    narrow(insn, profile, names, pairs, taken);
     Some(target)
 }
 

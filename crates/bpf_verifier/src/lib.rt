@@ -28,11 +28,11 @@ pub use bpf_image::{FormRule, Image, ImageFault, ImageKind, raw_image, read_imag
 pub use callee::{Called, callee_in};
 pub use candidate::Candidate;
 pub use cells::{is_touched, span_given, span_of};
-pub use edges::{named_edge, taken_edge};
+pub use edges::{narrowed_edge, taken_edge};
 pub use kinds::kind_of;
 pub use naming::tell_named;
 pub use pair::{Pair, Pairs};
-pub use pairs::{no_pairs, pairs_here, pairs_over, pairs_told};
+pub use pairs::{narrow, no_pairs, pairs_here, pairs_over, pairs_told};
 pub use rule::{KindRule, Refused, Rule};
 pub use rules::advance;
 pub use span::Span;

@@ -5,13 +5,16 @@ ghost use Rattle.bpf_semantics.specs.declared.profile.Profile.TheVariants.{Secon
 ghost use Rattle.bpf_verifier.specs.Table.{AreKinds};
 ghost use Rattle.bpf_verifier.specs.Sums.{sum_at_most, summed, told};
 ghost use Rattle.bpf_verifier.specs.Pairs.{no_pairs, is_in, are_of, most_in, most_together, argument_ends};
+ghost use Rattle.bpf_verifier.specs.Paired.{told_by_pair, told_pair, told_pairs, paired, narrowed};
 ghost use Rattle.bpf_verifier.specs.PairSteps.{pair_without, pairs_without, before, with_pair, partner, carried, carried_into, carried_from, pairs_of_sum, pairs_of_op, pair_over_call, pairs_over_call, pairs_over, pair_of, pair_told, pair_by, pairs_by_operand, pairs_told};
 
 use crate::kinds::{kind_of, kind_of_operand};
+use crate::naming::tell_named;
 use crate::pair::{Pair, Pairs};
 use crate::sum::Sum;
-use crate::sums::{KnownSums, most, narrow_register, sum_in, tell};
+use crate::sums::{KnownSums, least, most, narrow_register, sum_in, tell};
 use bpf_alu::{Op, Width};
+use bpf_copies::Name;
 use bpf_insn::{Insn, Operand, Register};
 use bpf_ranges::{Kind, Profile};
 
@@ -418,4 +421,50 @@ pub fn tell_on(insn: Insn, profile: Profile, sums: &KnownSums, pairs: Pairs, row
 {
     tell_sum(insn, profile, pairs, row);
     tell(insn, profile, sums, row);
+}
+
+/// Narrows the two registers of a pair: each is at most what both are together less the least other number.
+fn tell_by_pair(pair: Pair, row: &mut [Kind])
+    requires { AreKinds row.old }
+    ensures table { row.new ≡ told_by_pair pair row.old }
+    ensures kinds { AreKinds row.new }
+{
+    let (left, right) = (kind_of(row, pair.left), kind_of(row, pair.right));
+    narrow_register(pair.most.saturating_sub(least(right)), pair.left, row);
+    narrow_register(pair.most.saturating_sub(least(left)), pair.right, row);
+}
+
+/// The same, if there is a pair.
+fn tell_pair(pair: Option<Pair>, row: &mut [Kind])
+    requires { AreKinds row.old }
+    ensures table { row.new ≡ told_pair pair row.old }
+    ensures kinds { AreKinds row.new }
+{
+    if let Some(pair) = pair {
+        tell_by_pair(pair, row);
+    }
+}
+
+/// Narrows the registers of the pairs that are known where a condition is tested, be the jump taken or not, by the second profile.
+fn tell_pairs(insn: Insn, profile: Profile, pairs: Pairs, row: &mut [Kind])
+    requires { AreKinds row.old }
+    ensures table { row.new ≡ paired insn profile pairs row.old }
+    ensures kinds { AreKinds row.new }
+{
+    if let (Insn::JumpIf { .. }, Profile::Second) = (insn, profile) {
+        tell_pair(pairs.first, row);
+        tell_pair(pairs.second, row);
+        tell_pair(pairs.third, row);
+        tell_pair(pairs.fourth, row);
+    }
+}
+
+/// Narrows what the names of registers tell where a condition is tested, and then what the pairs do, be the jump taken or not.
+pub fn narrow(insn: Insn, profile: Profile, names: &[Name; 11], pairs: Pairs, row: &mut [Kind])
+    requires { AreKinds row.old }
+    ensures table { row.new ≡ narrowed insn profile names.now pairs row.old }
+    ensures kinds { AreKinds row.new }
+{
+    tell_named(insn, profile, names, row);
+    tell_pairs(insn, profile, pairs, row);
 }

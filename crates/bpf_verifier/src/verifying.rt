@@ -20,11 +20,11 @@ ghost use Rattle.bpf_verifier.specs.Plain.{IsPlain, IsWellBehaved};
 use crate::callee::callee_in;
 use crate::candidate::Candidate;
 use crate::cells::{lowered, span_written};
-use crate::edges::{lead_on, named_edge, take_waiting};
+use crate::edges::{lead_on, narrowed_edge, take_waiting};
 use crate::kinds::one_number;
-use crate::naming::{bounds_here, tell_named};
+use crate::naming::bounds_here;
 use crate::pair::Pairs;
-use crate::pairs::{no_pairs, pairs_here, pairs_over, pairs_told, tell_on};
+use crate::pairs::{narrow, no_pairs, pairs_here, pairs_over, pairs_told, tell_on};
 use crate::rule::{KindRule, Refused, Rule};
 use crate::rules::advance;
 use crate::slots::lower_slot;
@@ -122,17 +122,27 @@ fn visit<const N: usize>(
     let callee = callee_in(&program.sigs, insn);
     let profile = program.image.profile;
     rows.low = lowered(rows.low, span_written(&callee, row, insn));
-    let target = named_edge(profile, rows.low, at, row, insn, &sums.names.here, taken);
-    let over = pairs_over(insn, row, *pairs);
-    if let Some(rule) = advance(program, &callee, *pairs, row, insn) {
+    let before = *pairs;
+    let target = narrowed_edge(
+        profile,
+        rows.low,
+        at,
+        row,
+        insn,
+        &sums.names.here,
+        before,
+        taken,
+    );
+    let over = pairs_over(insn, row, before);
+    if let Some(rule) = advance(program, &callee, before, row, insn) {
         return Err(Refused {
             rule: Rule::Kinds(rule),
             slot: at as u32,
         });
     }
-    tell_on(insn, profile, &sums.held, *pairs, row);
+    tell_on(insn, profile, &sums.held, before, row);
     *pairs = pairs_told(insn, profile, &sums.held, row, over);
-    tell_named(insn, profile, &sums.names.here, row);
+    narrow(insn, profile, &sums.names.here, before, row);
     let Ok(on) = lead_on(profile, rows, at, row, insn, target, taken) else {
         return Err(no_memory());
     };

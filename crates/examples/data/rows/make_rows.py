@@ -1095,6 +1095,9 @@ ALIKE = [added(1, 7), copied(2, 1), copied(3, 8), call(3)]
 # An index and a length of the output's bytes: 2 and 3.
 SHORT = struct.pack("<II", 2, 3) + PLACES[8:]
 
+# An index and a length of more than 3: 9 and 5.
+FIVE = struct.pack("<II", 9, 5) + PLACES[8:]
+
 # Two indices of 2 bytes that are alike, and that length between them.
 ALIKE_TWO = struct.pack("<III", 12, 2, 14) + bytes([5, 6, 5, 6])
 
@@ -1130,6 +1133,20 @@ PAIRS = [
     ("the last byte from an index on, added in 32 bits", bytes_where([fields(0x15, 8, 0, 4, 0), copied(9, 7), fields(0x0C, 9, 8, 0, 0), added(1, 9), load_byte(0, 1, -1)]), TWO, refused(24, 10), refused(23, 9)),
     ("the last byte from an index on, where a jump leads", bytes_where([fields(0x15, 8, 0, 4, 0), jump(0), added(1, 7), added(1, 8), load_byte(0, 1, -1)]), TWO, refused(24, 10), refused(23, 8)),
     ("the last byte from an index on, the length read anew", bytes_where([load_byte(8, 1, 4), fields(0x15, 8, 0, 3, 0), added(1, 7), added(1, 8), load_byte(0, 1, -1)]), TWO, refused(24, 10), refused(23, 8)),
+    # where one of a pair is narrowed the other is
+    ("a byte at an index, its length not 0", bytes_where([fields(0x15, 8, 0, 2, 0), added(1, 7), load_byte(0, 1, 0)]), TWO, comes_to(9, 10), refused(23, 7)),
+    ("a byte at an index, its length 0", bytes_where([fields(0x15, 8, 0, 2, 0), added(1, 7), load_byte(0, 1, 0)]), struct.pack("<II", 256, 0) + PLACES[8:], comes_to(0, 8), refused(23, 7)),
+    ("a byte at an index, its length not 0, one further", bytes_where([fields(0x15, 8, 0, 2, 0), added(1, 7), load_byte(0, 1, 1)]), TWO, refused(24, 8), refused(23, 7)),
+    ("a byte behind an index, its length more than 3", bytes_where([fields(0x25, 8, 0, 1, 3), EXIT, added(1, 7), load_byte(0, 1, 3)]), FIVE, comes_to(12, 10), refused(23, 8)),
+    ("a byte behind an index, its length more than 3, one further", bytes_where([fields(0x25, 8, 0, 1, 3), EXIT, added(1, 7), load_byte(0, 1, 4)]), FIVE, refused(24, 9), refused(23, 8)),
+    ("a byte behind a length, its index not below 4", bytes_where([fields(0xA5, 7, 0, 2, 4), added(1, 8), load_byte(0, 1, 3)]), FIVE, comes_to(8, 10), refused(23, 7)),
+    ("a byte behind a length, its index not below 4, one further", bytes_where([fields(0xA5, 7, 0, 2, 4), added(1, 8), load_byte(0, 1, 4)]), FIVE, refused(24, 8), refused(23, 7)),
+    ("a byte at a pointer, its length not 0", bytes_where([copied(9, 1), added(9, 7), fields(0x15, 8, 0, 1, 0), load_byte(0, 9, 0)]), TWO, comes_to(9, 11), refused(23, 7)),
+    ("a byte at a pointer, its length not 0, one further", bytes_where([copied(9, 1), added(9, 7), fields(0x15, 8, 0, 1, 0), load_byte(0, 9, 1)]), TWO, refused(24, 9), refused(23, 7)),
+    ("a byte at an index, a copy of its length not 0", bytes_where([fields(0x15, 9, 0, 2, 0), added(1, 7), load_byte(0, 1, 0)], [copied(9, 8), *WHOLE]), TWO, comes_to(9, 11), refused(23, 8)),
+    ("a byte at an index, its length not 0 in 32 bits", bytes_where([fields(0x16, 8, 0, 2, 0), added(1, 7), load_byte(0, 1, 0)]), TWO, comes_to(9, 10), refused(23, 7)),
+    ("a byte at an index, its length read anew not 0", bytes_where([load_byte(8, 1, 4), fields(0x15, 8, 0, 2, 0), added(1, 7), load_byte(0, 1, 0)]), TWO, refused(24, 9), refused(23, 8)),
+    ("a byte at an index, another number not 0", bytes_where([fields(0x15, 2, 0, 2, 0), added(1, 7), load_byte(0, 1, 0)]), TWO, refused(24, 8), refused(23, 7)),
 ]
 
 

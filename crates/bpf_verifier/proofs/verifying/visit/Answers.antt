@@ -6,7 +6,7 @@ use Rattle.bpf_verifier.specs.Rows.{LeadBelow, StartsZero, IsKnown, HasKinds, ed
 use Rattle.bpf_verifier.specs.Rules.{first_of, rules_by, row_taken}
 use Rattle.bpf_verifier.specs.Waiting.{waiting}
 use Rattle.bpf_verifier.specs.Sums.{told, summed}
-use Rattle.bpf_verifier.specs.Naming.{named}
+use Rattle.bpf_verifier.specs.Paired.{narrowed}
 use Rattle.bpf_verifier.specs.PairSteps.{pairs_at}
 use Rattle.bpf_verifier.specs.Table.{table}
 use Rattle.bpf_verifier.specs.Cells.{span_written}
@@ -14,7 +14,7 @@ use Rattle.bpf_verifier.proofs.Zeros.{Ends, fewer_zeros, known_below, rows_below
 use Rattle.bpf_verifier.proofs.Waits.{zeros_below}
 use Rattle.bpf_verifier.proofs.SumSteps.{told_zeros}
 use Rattle.bpf_verifier.proofs.Summed.{summed_zeros}
-use Rattle.bpf_verifier.proofs.NamedRows.{named_zeros}
+use Rattle.bpf_verifier.proofs.PairRows.{narrowed_zeros}
 use Rattle.bpf_verifier.proofs.Shape.{next_within, target_within, target_below}
 use Rattle.bpf_verifier.proofs.Visits.{none_unbroken, none_pass, none_paired, broken_here, paired_here, all_here, alone_here, here_taken}
 use Rattle.bpf_verifier.proofs.verifying.visit.Goals as goal
@@ -48,8 +48,8 @@ returns-in_default-clause-pairs g c =
     let rows = waiting c.args.rows.now in
     c.no_pairs.ensures ∙ none_paired p rows c.args.at c.requires.within (subst (λ o. IsPass p rows o c.args.at) c.in_default.is c.requires.pass) c.args.sums.now.held c.args.pairs.now
 
-pub named_edge-target-requires : goal.named_edge-target-requires
-named_edge-target-requires g c =
+pub narrowed_edge-target-requires : goal.narrowed_edge-target-requires
+narrowed_edge-target-requires g c =
     let insn = slice_get_read c.args.program.now.image.code.items c.args.program.now.image.code.len c.args.at c.index-insn.result.now c.args.program.now.image.code.ok.0 (omega (arith, c.requires.within, c.args.program.now.image.code.ok.0)) c.index-insn.ensures in
     let few = c.args.program.now.image.few_slots in
     let profile = c.args.program.now.image.profile in
@@ -99,7 +99,7 @@ lead_on-requires g c =
     let ends : Ends low (span_written callee row x) = subst (Ends low) c.span_written.ensures c.lowered-rows.ensures.before in
     let long : 11 ≤ length row = omega (arith, c.requires.long) in
     let told_row : StartsZero profile low c.tell_on.new.row = subst (StartsZero profile low) (sym (c.tell_on.ensures.table ∙ ap (λ q. told x profile c.args.sums.now.held (summed x profile c.args.pairs.now q)) c.in_default-advance.ensures.row)) (told_zeros profile low x c.args.sums.now.held _ (summed_zeros profile low x c.args.pairs.now _ (after_zeros profile low callee row x long ends zeros))) in
-    let after : IsKnown profile low c.tell_named.new.row = record { kinds = c.tell_named.ensures.kinds; zeros = subst (StartsZero profile low) (sym c.tell_named.ensures.table) (named_zeros c.args.sums.now.names.here x profile profile low _ told_row) } in
+    let after : IsKnown profile low c.narrow.new.row = record { kinds = c.narrow.ensures.kinds; zeros = subst (StartsZero profile low) (sym c.narrow.ensures.table) (narrowed_zeros c.args.sums.now.names.here x profile c.args.pairs.now profile low _ told_row) } in
     let few = c.args.program.now.image.few_slots in (
       search rules,
       (
@@ -109,12 +109,12 @@ lead_on-requires g c =
           (
             (λ k e. let h = next_within c.args.program.now.image.code.items c.args.at c.index-insn.result.now k c.requires.formed insn e in omega (arith, h, c.requires.pass.long)),
             (
-              subst (LeadBelow (length rows)) (sym c.named_edge-target.ensures.edge)
-                  (target_below c.args.program.now.image.code.items c.args.at c.index-insn.result.now (named c.index-insn.result.now c.args.program.now.image.profile c.args.sums.now.names.here (row_taken c.args.program.now.image.profile c.in-Some.row c.index-insn.result.now)) (length rows) c.requires.formed insn (omega (arith, c.requires.pass.long))),
+              subst (LeadBelow (length rows)) (sym c.narrowed_edge-target.ensures.edge)
+                  (target_below c.args.program.now.image.code.items c.args.at c.index-insn.result.now (narrowed c.index-insn.result.now c.args.program.now.image.profile c.args.sums.now.names.here c.args.pairs.now (row_taken c.args.program.now.image.profile c.in-Some.row c.index-insn.result.now)) (length rows) c.requires.formed insn (omega (arith, c.requires.pass.long))),
               (
                 after,
                 (
-                  c.named_edge-target.ensures.known,
+                  c.narrowed_edge-target.ensures.known,
                   record {
                     kinds = rows_below profile c.args.rows.now.low low rows c.lowered-rows.ensures.lower pool.kinds;
                     owned = pool.owned;
@@ -143,7 +143,7 @@ returns-then-not-on-clause-pass g c =
     let rows = waiting c.args.rows.now in
     let insn = slice_get_read c.args.program.now.image.code.items c.args.program.now.image.code.len c.args.at c.index-insn.result.now c.args.program.now.image.code.ok.0 (omega (arith, c.requires.within, c.args.program.now.image.code.ok.0)) c.index-insn.ensures in
     here_taken p (waiting c.lead_on.new.rows) (waiting c.take_waiting-then-not-on.new.rows) c.take_waiting-then-not-on.new.here (c.args.at + 1)
-    (all_here p rows c.args.at c.requires.within c.in-Some.row c.index-insn.result.now (subst (λ o. IsPass p rows o c.args.at) c.in-Some.is c.requires.pass) insn (callee_from c.callee_in-callee.result) c.args.sums.now.held c.args.pairs.now c.args.sums.now.names.here c.tell_named.new.row (edge_list c.named_edge-target.result c.named_edge-target.new.taken) c.callee_in-callee.ensures c.requires.held c.requires.pairs c.requires.names (c.tell_named.ensures.table ∙ ap (named c.index-insn.result.now c.args.program.now.image.profile c.args.sums.now.names.here) (c.tell_on.ensures.table ∙ ap (λ q. told c.index-insn.result.now c.args.program.now.image.profile c.args.sums.now.held (summed c.index-insn.result.now c.args.program.now.image.profile c.args.pairs.now q)) c.in_default-advance.ensures.row)) c.named_edge-target.ensures.edge (waiting c.lead_on.new.rows) (c.in-Ok.ensures.all c.if-not-on.true))
+    (all_here p rows c.args.at c.requires.within c.in-Some.row c.index-insn.result.now (subst (λ o. IsPass p rows o c.args.at) c.in-Some.is c.requires.pass) insn (callee_from c.callee_in-callee.result) c.args.sums.now.held c.args.pairs.now c.args.sums.now.names.here c.narrow.new.row (edge_list c.narrowed_edge-target.result c.narrowed_edge-target.new.taken) c.callee_in-callee.ensures c.requires.held c.requires.pairs c.requires.names (c.narrow.ensures.table ∙ ap (narrowed c.index-insn.result.now c.args.program.now.image.profile c.args.sums.now.names.here c.args.pairs.now) (c.tell_on.ensures.table ∙ ap (λ q. told c.index-insn.result.now c.args.program.now.image.profile c.args.sums.now.held (summed c.index-insn.result.now c.args.program.now.image.profile c.args.pairs.now q)) c.in_default-advance.ensures.row)) c.narrowed_edge-target.ensures.edge (waiting c.lead_on.new.rows) (c.in-Ok.ensures.all c.if-not-on.true))
     c.take_waiting-then-not-on.ensures.here c.take_waiting-then-not-on.ensures.rows
 
 pub returns-then-not-on-clause-pool : goal.returns-then-not-on-clause-pool
@@ -153,7 +153,7 @@ pub returns-then-not-on-clause-here : goal.returns-then-not-on-clause-here
 returns-then-not-on-clause-here g c = c.take_waiting-then-not-on.ensures.known c.args.program.now.image.profile c.in-Ok.ensures.pool
 
 pub returns-then-not-on-clause-taken : goal.returns-then-not-on-clause-taken
-returns-then-not-on-clause-taken g c = subst (λ l. StartsZero c.args.program.now.image.profile l c.named_edge-target.new.taken) (sym (c.take_waiting-then-not-on.ensures.low ∙ c.lead_on.ensures.low)) c.named_edge-target.ensures.zeros
+returns-then-not-on-clause-taken g c = subst (λ l. StartsZero c.args.program.now.image.profile l c.narrowed_edge-target.new.taken) (sym (c.take_waiting-then-not-on.ensures.low ∙ c.lead_on.ensures.low)) c.narrowed_edge-target.ensures.zeros
 
 pub returns-then-not-on-clause-pairs : goal.returns-then-not-on-clause-pairs
 returns-then-not-on-clause-pairs g c =
@@ -175,10 +175,10 @@ returns-else-not-on-clause-pass g c =
     let rows = waiting c.args.rows.now in
     let insn = slice_get_read c.args.program.now.image.code.items c.args.program.now.image.code.len c.args.at c.index-insn.result.now c.args.program.now.image.code.ok.0 (omega (arith, c.requires.within, c.args.program.now.image.code.ok.0)) c.index-insn.ensures in
     let on = c.if-not-on.false in
-    alone_here p rows c.args.at c.requires.within c.in-Some.row c.index-insn.result.now (subst (λ o. IsPass p rows o c.args.at) c.in-Some.is c.requires.pass) insn (callee_from c.callee_in-callee.result) c.args.sums.now.held c.args.pairs.now c.args.sums.now.names.here c.tell_named.new.row (edge_list c.named_edge-target.result c.named_edge-target.new.taken) c.callee_in-callee.ensures c.requires.held c.requires.pairs c.requires.names (c.tell_named.ensures.table ∙ ap (named c.index-insn.result.now c.args.program.now.image.profile c.args.sums.now.names.here) (c.tell_on.ensures.table ∙ ap (λ q. told c.index-insn.result.now c.args.program.now.image.profile c.args.sums.now.held (summed c.index-insn.result.now c.args.program.now.image.profile c.args.pairs.now q)) c.in_default-advance.ensures.row)) c.named_edge-target.ensures.edge (waiting c.lead_on.new.rows) c.lead_on.new.row (c.in-Ok.ensures.rest on) (c.in-Ok.ensures.on on) (c.in-Ok.ensures.joined on) (c.in-Ok.ensures.misses on)
+    alone_here p rows c.args.at c.requires.within c.in-Some.row c.index-insn.result.now (subst (λ o. IsPass p rows o c.args.at) c.in-Some.is c.requires.pass) insn (callee_from c.callee_in-callee.result) c.args.sums.now.held c.args.pairs.now c.args.sums.now.names.here c.narrow.new.row (edge_list c.narrowed_edge-target.result c.narrowed_edge-target.new.taken) c.callee_in-callee.ensures c.requires.held c.requires.pairs c.requires.names (c.narrow.ensures.table ∙ ap (narrowed c.index-insn.result.now c.args.program.now.image.profile c.args.sums.now.names.here c.args.pairs.now) (c.tell_on.ensures.table ∙ ap (λ q. told c.index-insn.result.now c.args.program.now.image.profile c.args.sums.now.held (summed c.index-insn.result.now c.args.program.now.image.profile c.args.pairs.now q)) c.in_default-advance.ensures.row)) c.narrowed_edge-target.ensures.edge (waiting c.lead_on.new.rows) c.lead_on.new.row (c.in-Ok.ensures.rest on) (c.in-Ok.ensures.on on) (c.in-Ok.ensures.joined on) (c.in-Ok.ensures.misses on)
 
 pub returns-else-not-on-clause-taken : goal.returns-else-not-on-clause-taken
-returns-else-not-on-clause-taken g c = subst (λ l. StartsZero c.args.program.now.image.profile l c.named_edge-target.new.taken) (sym c.lead_on.ensures.low) c.named_edge-target.ensures.zeros
+returns-else-not-on-clause-taken g c = subst (λ l. StartsZero c.args.program.now.image.profile l c.narrowed_edge-target.new.taken) (sym c.lead_on.ensures.low) c.narrowed_edge-target.ensures.zeros
 
 pub returns-else-not-on-clause-pairs : goal.returns-else-not-on-clause-pairs
 returns-else-not-on-clause-pairs g c =
