@@ -197,8 +197,8 @@ def value(clock, text, media=TEXT, dot=None):
     return answer(200, media, clock, body=text, etag=tag(dot), shows_key=True)
 
 
-def not_found(clock=None):
-    return answer(404, TEXT, clock, body="not found\n", shows_key=True)
+def not_found(clock=None, closes=False):
+    return answer(404, TEXT, clock, closes=closes, body="not found\n", shows_key=True)
 
 
 def choices(clock, *dots):
@@ -1331,7 +1331,7 @@ def together():
     """Many reads that come together, with other requests among them and behind them."""
     key, other = Key("b", "k"), Key("b", "other")
     one = key.vnode()
-    last = told(404, "not found", closes=True)
+    last = not_found(closes=True)
     chosen = first_key("c", "k")
 
     def read(of, *fields):
