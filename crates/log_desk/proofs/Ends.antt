@@ -1,5 +1,5 @@
 -- Logs that ended.
-use Rattle.std.proofs.Common.{◌≡◌, ◌∙◌, List, ◌∷◌, [], ◌++◌, Result, Ok, Err, OnOk, subst, sym}
+use Rattle.std.proofs.Common.{◌≡◌, ◌∙◌, List, ◌∷◌, [], ◌++◌, Result, Ok, Err, OnOk}
 use Rattle.kept_file.specs.Files.{end_of}
 use Rattle.log_writer.specs.declared.sheet.Sheet.{Sheet}
 use Rattle.record_codec.specs.Lists.{AreSpelledBy}

@@ -1,7 +1,8 @@
 //! The desk, which workers and who makes snapshots share.
 
-ghost use Rattle.std.specs.Prelude.{◌≡◌, ◌++◌, ◌∷◌, [], List};
+ghost use Rattle.std.specs.Prelude.{◌≡◌, ◌++◌, ◌∷◌, [], IfOk, List};
 ghost use Rattle.log_writer.specs.declared.sheet.Sheet.{Sheet as OneSheet};
+ghost use Rattle.log_desk.specs.Desks.{sync_of};
 ghost use Rattle.log_desk.specs.Keeping.{IsKeptAs};
 ghost use Rattle.shared_prefix.specs.Lists.{book_of};
 
@@ -46,6 +47,7 @@ pub fn open<F: LogFolder + Drop, J: Naming>(
     list: Opened<Sheet>,
 ) -> Result<Desk<F, J>, FileFault>
     requires list { book_of list ≡ J.book }
+    ensures set { IfOk result (λ desk. sync_of desk ≡ sync) }
 {
     let (book, none) = list.named::<J>();
     let (oldest, newest) = match logs {
@@ -76,7 +78,7 @@ impl<F: LogFolder + HooksFile, J: Naming + Send> Ledger for Desk<F, J> {
 
     ghost put = { λ _ sheet receipt. (before : List OneSheet) × (receipt ≡ before ++ sheet ∷ []) };
 
-    ghost shows = { λ desk receipt kept. IsKeptAs desk.sync receipt kept };
+    ghost shows = { λ desk receipt kept. IsKeptAs (sync_of desk) receipt kept };
 
     fn is_kept(&self) -> bool {
         true

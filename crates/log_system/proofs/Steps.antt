@@ -1,5 +1,5 @@
 -- What each call does to a log's file, by the history of calls.
-use Rattle.std.proofs.Common.{◌≡◌, ℕ, zero, suc, ◌+◌, min, Bool, true, false, List, [], ◌∷◌, ◌++◌, length, take, refl, sym, ap, subst, arith, None, Some}
+use Rattle.std.proofs.Common.{◌≡◌, ℕ, zero, suc, ◌+◌, Bool, true, false, List, [], ◌∷◌, length, take, refl, sym, ap, subst, arith, None, Some}
 use Rattle.std.proofs.lemmas.List.{length-take}
 use Rattle.log_file.specs.Devices.{Cut, Grown}
 use Rattle.log_system.specs.Calls.{part_of, standing, Call, MayLeave, Found, Shortened, Synced, Wrote}

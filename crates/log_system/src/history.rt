@@ -68,8 +68,8 @@ impl History {
         History { of: PhantomData }
     }
 
-    // Notes a call: by numbers, which one it was, a length, and 1 where it succeeded; and its bytes. Of one that failed a part was done, and
-    // which is not said.
+    // Notes a call: by numbers, which one it was, a length, and 1 where it succeeded; and its bytes. Of one that failed a part was done,
+    // and which is not said.
     fn note(&mut self, _numbers: &[u64], _bytes: &[u8])
         ensures { (part : ℕ) × (self.new.calls ≡ call_of _numbers.now _bytes.now part ∷ self.old.calls) }
     {}

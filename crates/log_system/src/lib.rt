@@ -5,8 +5,8 @@
 //!
 //! Supposed of the system are three things. A call that succeeds did what POSIX says of `write` in append mode, `ftruncate` and
 //! `fdatasync`, on a file that nobody else writes; one that fails did a part of it, and no clause says which. A force that succeeds,
-//! where none failed before, leaves on the device what stands in the file. A crash leaves of what wasn't forced since all that stood
-//! before it, and behind that anything: SQLite's property of powersafe overwrite.
+//! where none failed before, leaves on the device what stands in the file. A write behind the end, and a cut, leave what stands before
+//! them, whatever crash comes: SQLite's property of powersafe overwrite.
 #![tactic(auto)]
 
 mod history;
