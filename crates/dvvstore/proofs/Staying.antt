@@ -1,8 +1,9 @@
 -- What is left of a store, said of the same numbers and files.
-use Rattle.std.proofs.Common.{◌≡◌, ◌∙◌, ◌+◌, ◌<◌, ◌++◌, ℕ, zero, suc, List, Option, Result, Ok, Err, IfOk, [], ◌∷◌, arith, subst, sym}
+use Rattle.std.proofs.Common.{◌≡◌, ◌∙◌, ◌+◌, ◌<◌, ◌++◌, ℕ, zero, suc, List, Option, Result, Ok, Err, IfOk, Some, [], ◌∷◌, ap, arith, subst, sym}
 use Rattle.std.specs.List.{All}
 use Rattle.std.specs.Prelude.{IsErrAnd}
 use Rattle.std.proofs.lemmas.List.{get_or_append_left, length-append}
+use Rattle.std.proofs.lemmas.List.Elements.{All-pop}
 use Rattle.kept_file.specs.declared.file.KeptFile.{KeptFile}
 use Rattle.journal.specs.Logs.{Log}
 use Rattle.cluster_stamps.specs.declared.view.View.{View}
@@ -39,6 +40,10 @@ fresh_before passes rest pass fresh is = λ k d lt.
     let same : All (λ (p : View). p ≡ pass_view 0 []) (rest ++ pass ∷ []) = subst (All (λ (p : View). p ≡ pass_view 0 [])) is fresh in
     let long = length-append rest (pass ∷ []) in
     sym (get_or_append_left rest (pass ∷ []) d k lt) ∙ same k d (omega (arith, lt, long))
+
+-- and so it was with the last
+pub fresh_last : (passes rest : List View) (pass : View) → All (λ (p : View). p ≡ pass_view 0 []) passes → passes ≡ rest ++ pass ∷ [] → pass.told ≡ []
+fresh_last passes rest pass fresh is = ap (λ (p : View). p.told) (All-pop (λ (p : View). p ≡ pass_view 0 []) passes rest (Some pass) is fresh).1
 
 -- where vnodes are left, they are left so
 pub left_so : {F E : Type 0} → (folder : Option F) (first vnodes : ℕ) (files : List KeptFile) (served : Result Served E) → IfOk served (IsLeftFrom folder first vnodes files) → Leaves folder first vnodes files (left_as served)

@@ -32,3 +32,8 @@ module _ {S A : Type 0} (of : S → A) where
       ap (λ n. length rest + n) (sym (length-map made of) ∙ sym (length-reverse (map of made))) ∙ (sym (length-append rest (reverse (map of made))) ∙ (ap length is ∙ sym even)) in
       let none : rest ≡ [] = nil_from_length rest (omega arith) in
       sym (reverse-reverse (map of made)) ∙ ap reverse (ap (λ l. l ++ reverse (map of made)) (sym none) ∙ is)
+
+  -- one more is copied
+  pub copied_one : (xs more : List A) (made : List S) (one : S) (x : A) → xs ≡ map of made → more ≡ xs ++ x ∷ [] → x ≡ of one → more ≡ map of (made ++ one ∷ [])
+  copied_one xs more made one x is grown its =
+      grown ∙ (ap (λ l. l ++ x ∷ []) is ∙ (ap (λ y. map of made ++ y ∷ []) its ∙ sym (map-append of made (one ∷ []))))

@@ -6,6 +6,6 @@ pub returns-in-Ok-Some-clause-put : goal.returns-in-Ok-Some-clause-put
 returns-in-Ok-Some-clause-put g c =
     list_put g.F.Folder.does c.in-Ok-Some.requests.items c.deref.result.now c.args.self.now.folder c.keep_requests.new.folder c.keep_requests.result (rw c.in-Ok-Some.field-0-is at c.in-Ok-Some.ensures) c.deref.ensures.value c.keep_requests.ensures.put
 
-pub returns-in_default-clause-put : goal.returns-in_default-clause-put
-returns-in_default-clause-put g c =
+pub returns-clause-put : goal.returns-clause-put
+returns-clause-put g c =
     list_unput (AreListed g.F.Folder.does c.args.self.now.folder c.keep_requests-in_default.new.folder) c.keep_requests-in_default.result c.keep_requests-in_default.ensures.put
