@@ -1103,8 +1103,8 @@ BYTES = [load_byte(7, 1, 0), load_byte(8, 1, 4), *WHOLE, CLEAR]
 
 
 def either_test(test, other, moves):
-    """What some slots come to, behind one of two tests of that sum: the first where the input isn't empty."""
-    return [*BYTES, fields(0x15, 2, 0, 2, 0), test, jump(3), *WHOLE, other, *moves, EXIT]
+    """What some slots come to, behind one of two tests of that sum: the first where a third byte isn't 0."""
+    return [*BYTES, load_byte(5, 1, 12), fields(0x15, 5, 0, 2, 0), test, jump(3), *WHOLE, other, *moves, EXIT]
 
 
 # Two indices of 2 bytes that are alike, and that length between them.
@@ -1161,9 +1161,9 @@ PAIRS = [
     ("bytes from an index on, one further, where ways meet", bytes_where([ROUND_IF_EMPTY, put(9, 0), added(1, 7), raised(1, 1), *ALIKE[1:]]), TWO, refused(28, 12), refused(23, 8)),
     ("bytes from an index on, the length read anew on one way", bytes_where([ROUND_IF_EMPTY, load_byte(8, 1, 4), *ALIKE]), TWO, refused(28, 11), refused(23, 8)),
     ("bytes from an index on, tested on one way alone", [*BYTES, ROUND_IF_EMPTY, fields(0x2D, 6, 2, 4, 0), *ALIKE, EXIT], TWO, refused(28, 10), refused(28, 10)),
-    ("bytes from an index on, by either of two tests", either_test(fields(0x2D, 6, 2, 8, 0), fields(0x25, 6, 0, 4, 100), ALIKE), TWO, comes_to(1, 13), refused(28, 14)),
-    ("bytes from an index on, one further, by the wider of two tests", either_test(fields(0x25, 6, 0, 9, 100), fields(0x2D, 6, 2, 5, 0), [added(1, 7), raised(1, 1), *ALIKE[1:]]), TWO, refused(28, 15), refused(28, 15)),
-    ("bytes from an index on, one further, by two narrow tests", either_test(fields(0x25, 6, 0, 9, 100), fields(0x25, 6, 0, 5, 200), [added(1, 7), raised(1, 1), *ALIKE[1:]]), TWO, comes_to(1, 14), refused(28, 15)),
+    ("bytes from an index on, by either of two tests", either_test(fields(0x2D, 6, 2, 8, 0), fields(0x25, 6, 0, 4, 100), ALIKE), TWO, comes_to(1, 14), refused(28, 15)),
+    ("bytes from an index on, one further, by the wider of two tests", either_test(fields(0x25, 6, 0, 9, 100), fields(0x2D, 6, 2, 5, 0), [added(1, 7), raised(1, 1), *ALIKE[1:]]), TWO, refused(28, 16), refused(28, 16)),
+    ("bytes from an index on, one further, by two narrow tests", either_test(fields(0x25, 6, 0, 9, 100), fields(0x25, 6, 0, 5, 200), [added(1, 7), raised(1, 1), *ALIKE[1:]]), TWO, comes_to(1, 15), refused(28, 16)),
     ("a byte at an index, another number not 0", bytes_where([fields(0x15, 2, 0, 2, 0), added(1, 7), load_byte(0, 1, 0)]), TWO, refused(24, 8), refused(23, 7)),
 ]
 
