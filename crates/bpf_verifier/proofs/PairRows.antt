@@ -41,7 +41,7 @@ pub paired_keeps : (P : Row → Type 0) (x : Insn) (profile : Profile) (pairs : 
 paired_keeps P x profile pairs row g h = paired_is P x profile pairs row h (all_keep P pairs row (one_keeps P g) h)
 
 pub narrowed_long : (names : Names) (x : Insn) (profile : Profile) (pairs : Pairs) (q : Profile) (row : Row) → IsLong q row → IsLong q (narrowed x profile names pairs row)
-narrowed_long names x profile pairs q row h = paired_keeps (IsLong q) x profile pairs _ (λ n r row long _. length-set _ _ _ ∙ long) (named_long names x profile q row h)
+narrowed_long names x profile pairs q row h = paired_keeps (IsLong q) x profile pairs _ (λ n r row _ long. length-set _ _ _ ∙ long) (named_long names x profile q row h)
 
 pub narrowed_zeros : (names : Names) (x : Insn) (profile : Profile) (pairs : Pairs) (q : Profile) (low : ℕ) (row : Row) → StartsZero q low row → StartsZero q low (narrowed x profile names pairs row)
 narrowed_zeros names x profile pairs q low row h = paired_keeps (StartsZero q low) x profile pairs _ (λ n r row _ zeros. register_zeros q low row r _ zeros) (named_zeros names x profile q low row h)
@@ -51,14 +51,14 @@ module _ (sound : IsSoundTable Second) where
   narrowed_kinds names x profile pairs row h = paired_keeps AreKinds x profile pairs _ (λ n r row lt kinds. register_kinds sound n r row lt kinds) (named_kinds sound names x profile row h)
 
   module _ (profile : Profile) (s : State) where
-    register_fits : (n : ℕ) (r : Register) (row : Row) → n < 2 ^ 64 → number_in s r ≤ n → Fits profile s row → Fits profile s (register_at_most n r row)
+    register_fits : (n : ℕ) (r : Register) (row : Row) → n < 2 ^ 64 → number_in s r ≤ n → Fits sound profile s row → Fits sound profile s (register_at_most n r row)
     register_fits n r row lt le h = record {
       long = length-set _ _ _ ∙ h.long;
       kinds = register_kinds sound n r row lt h.kinds;
       fits = register_stays sound profile s n r row h.long h.kinds h.fits lt le;
     }
 
-    one_fits : (o : Option Pair) (row : Row) → PairHolds o s → Fits profile s row → Fits profile s (told_pair o row)
+    one_fits : (o : Option Pair) (row : Row) → PairHolds o s → Fits sound profile s row → Fits sound profile s (told_pair o row)
     one_fits None row holds h = h
     one_fits (Some pair) row holds h =
         let x = at_register sound profile s row h.long h.kinds h.fits pair.left in
@@ -68,8 +68,8 @@ module _ (sound : IsSoundTable Second) where
         register_fits _ pair.right _ (omega arith) (omega (arith, holds, left, y.1)) (register_fits _ pair.left row (omega arith) (omega (arith, holds, right, x.1)) h)
 
     -- what names and pairs tell where a condition was tested is so
-    pub narrowed_fits : (names : Names) (pairs : Pairs) → AreNamed names s → HoldPairs pairs s → (x : Insn) (row : Row) → Fits profile s row → Fits profile s (narrowed x profile names pairs row)
+    pub narrowed_fits : (names : Names) (pairs : Pairs) → AreNamed names s → HoldPairs pairs s → (x : Insn) (row : Row) → Fits sound profile s row → Fits sound profile s (narrowed x profile names pairs row)
     narrowed_fits names pairs are holds x row h =
         let after = named_fits sound profile s names are x row h in
-        paired_is (Fits profile s) x profile pairs _ after
+        paired_is (Fits sound profile s) x profile pairs _ after
         (one_fits pairs.fourth _ holds.fourth (one_fits pairs.third _ holds.third (one_fits pairs.second _ holds.second (one_fits pairs.first _ holds.first after))))
