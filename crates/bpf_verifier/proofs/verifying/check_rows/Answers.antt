@@ -1,13 +1,15 @@
 use Rattle.std.proofs.Common.{rules, ◌≡◌, ◌+◌, ◌<◌, ◌≤◌, length, Some, None, refl, ap, sym, ◌∙◌, subst, arith}
 use Rattle.std.specs.Prelude.{slice_get}
+use Rattle.std.proofs.lemmas.Option.{slice_get_read}
 use Rattle.bpf_verifier.specs.Candidates.{program_in}
-use Rattle.bpf_copies.specs.Led.{leads_before}
 use Rattle.bpf_verifier.specs.Table.{table, broken_at}
 use Rattle.bpf_verifier.specs.Rows.{StartsZero, IsKnown, AreRowKinds, IsPass}
 use Rattle.bpf_verifier.specs.Waiting.{waiting}
 use Rattle.bpf_verifier.specs.Known.{AreSums}
+use Rattle.bpf_verifier.specs.PairSteps.{pairs_next}
+use Rattle.bpf_verifier.specs.Meetings.{Meets}
 use Rattle.bpf_verifier.proofs.Tables.{pass_first, none_kinds}
-use Rattle.bpf_verifier.proofs.Noted.{pairs_on, known_kinds, one_more}
+use Rattle.bpf_verifier.proofs.Noted.{known_kinds, one_more}
 use Rattle.bpf_verifier.proofs.Visits.{bounded_here, all_visited}
 use Rattle.bpf_verifier.proofs.Lowering.{slots_and, slot_here}
 use Rattle.bpf_verifier.proofs.verifying.check_rows.Goals as goal
@@ -30,6 +32,7 @@ loop-at-init g c =
       };
       sums = subst (λ n. AreSums p n 0 c.in-Ok-new.sums) (omega (arith, c.len-slots.ensures, code.ok.0)) (c.in-Ok-new.ensures p refl);
       pairs = c.no_pairs-pairs.ensures;
+      meets = subst (λ n. Meets p (table p) n 0 c.in-Ok-none_yet.meetings) (omega (arith, c.len-slots.ensures, code.ok.0)) (c.in-Ok-none_yet.ensures p (table p));
       here = subst (λ l. IsKnown p.profile l c.entry-first.result) (sym low) c.entry-first.ensures.known;
       taken = subst (λ l. StartsZero p.profile l c.entry-first.result) (sym low) c.entry-first.ensures.known.zeros;
       lows = record { whole = omega (arith, c.in-Ok-vec.lows.ok.0, c.in-Ok-vec.ensures.len, c.len-slots.ensures, code.ok.0); slots = λ k low lt e. absurd (omega arith) };
@@ -61,9 +64,17 @@ loop-at-preserved g c = record {
   sums = c.in-Ok-advance.ensures.on;
   pairs =
       let p = program_in c.args.program.now in
-      let next = c.loop-at.at + 1 in
-      let led = c.in-Ok-advance.ensures.on.led next (omega (arith, c.loop-at-test.true, c.len-slots.ensures, c.args.program.now.image.code.ok.0)) in
-      pairs_on p (table p) c.loop-at.at (leads_before p.code next next) c.loop-at.sums.held c.loop-at.pairs _ _ refl c.loop-at.invariant.sums.held c.loop-at.invariant.pairs c.in_ok-visit.ensures.pairs (c.pairs_here-pairs.ensures (leads_before p.code next next) (ap (λ xs. slice_get xs next) c.deref.ensures.value ∙ led));
+      let code = c.args.program.now.image.code in
+      let at = c.loop-at.at in
+      let insn = slice_get_read code.items code.len at c.index-insn.result.now code.ok.0 (omega (arith, c.loop-at-test.true, c.len-slots.ensures, code.ok.0)) c.index-insn.ensures in
+      c.in-Ok-meet.ensures.here p (table p) insn c.loop-at.invariant.pairs
+      (c.in_ok-visit.ensures.pairs ∙ ap (λ s. pairs_next p (slice_get p.code at) s (slice_get (table p) at) c.loop-at.pairs) c.loop-at.invariant.sums.held)
+      (length p.code + 1) c.loop-at.invariant.meets;
+  meets =
+      let p = program_in c.args.program.now in
+      let code = c.args.program.now.image.code in
+      let insn = slice_get_read code.items code.len c.loop-at.at c.index-insn.result.now code.ok.0 (omega (arith, c.loop-at-test.true, c.len-slots.ensures, code.ok.0)) c.index-insn.ensures in
+      c.in-Ok-meet.ensures.follows p (table p) insn c.loop-at.invariant.pairs (length p.code + 1) c.loop-at.invariant.meets;
   here = c.in_ok-visit.ensures.here;
   taken = c.in_ok-visit.ensures.taken;
   lows =
