@@ -1,6 +1,6 @@
 //! Pairs that wait for the slots to which jumps lead.
 
-ghost use Rattle.std.specs.Prelude.{◌≡◌, ◌<◌, ◌+◌, ℕ, Some, IfOk, OnErr, List, Option, slice_get, vec_len};
+ghost use Rattle.std.specs.Prelude.{◌≡◌, ◌<◌, ◌≤◌, ◌+◌, ℕ, Some, IfOk, OnErr, List, Option, slice_get, vec_len};
 ghost use Rattle.bpf_copies.specs.Names.{goes_on};
 ghost use Rattle.bpf_verifier.specs.Program.{Program};
 ghost use Rattle.bpf_verifier.specs.Registers.{Row};
@@ -120,7 +120,8 @@ impl Meetings {
         pairs: Pairs,
         next: Pairs,
     ) -> Result<Pairs, AllocError>
-        requires { at + 1 < vec_len self.old.waiting }
+        requires few { vec_len self.old.waiting ≤ 4097 }
+        requires within { at + 1 < vec_len self.old.waiting }
         ensures here { IfOk result (λ here. (p : Program) (rows : List (Option Row)) → slice_get p.code at ≡ Some insn → pairs ≡ pairs_at p rows at → next ≡ pairs_behind p rows at pairs → (slots : ℕ) → Meets p rows slots at self.old → here ≡ pairs_at p rows (at + 1)) }
         ensures follows { IfOk result (λ _. (p : Program) (rows : List (Option Row)) → slice_get p.code at ≡ Some insn → pairs ≡ pairs_at p rows at → (slots : ℕ) → Meets p rows slots at self.old → Meets p rows slots (at + 1) self.new) }
         ensures waiting { OnErr result ((k : ℕ) → brought_at self.new.waiting.items k ≡ brought_at self.old.waiting.items k) }

@@ -8,6 +8,7 @@ use Rattle.bpf_verifier.specs.Waiting.{waiting}
 use Rattle.bpf_verifier.specs.Known.{AreSums}
 use Rattle.bpf_verifier.specs.PairSteps.{pairs_next}
 use Rattle.bpf_verifier.specs.Meetings.{Meets}
+use Rattle.bpf_verifier.specs.Lowered.{AreSlots}
 use Rattle.bpf_verifier.proofs.Tables.{pass_first, none_kinds}
 use Rattle.bpf_verifier.proofs.Noted.{known_kinds, one_more}
 use Rattle.bpf_verifier.proofs.Visits.{bounded_here, all_visited}
@@ -57,6 +58,13 @@ advance-requires g c =
       known = λ _. bounded_here p (waiting c.loop-at.rows) c.loop-at.at within c.loop-at.here c.bounds_here-known.result c.loop-at.invariant.pass c.bounds_here-known.ensures;
     }
 
+pub meet-requires : goal.meet-requires
+meet-requires g c =
+    let code = c.args.program.now.image.code in
+    let few = c.args.program.now.image.few_slots in
+    let long = c.loop-at.invariant.meets.long in
+    record { few = omega (arith, long, few); within = omega (arith, c.loop-at-test.true, c.len-slots.ensures, code.ok.0, long) }
+
 pub loop-at-preserved : goal.loop-at-preserved
 loop-at-preserved g c = record {
   pass = c.in_ok-visit.ensures.pass;
@@ -88,3 +96,10 @@ loop-at-preserved g c = record {
 pub returns-clause-ok : goal.returns-clause-ok
 returns-clause-ok g c =
     all_visited (program_in c.args.program.now) c.loop-at.at c.requires.formed (omega (arith, c.len-slots.ensures, c.args.program.now.image.code.ok.0, c.loop-at-test.false)) c.loop-at.invariant.unbroken
+
+pub returns-clause-lowered : goal.returns-clause-lowered
+returns-clause-lowered g c =
+    let p = program_in c.args.program.now in
+    let code = c.args.program.now.image.code in
+    let end : c.loop-at.at ≡ length p.code = omega (arith, c.loop-at-test.false, c.loop-at.auto.at-end, c.len-slots.ensures, code.ok.0) in
+    subst (AreSlots p c.loop-at.lows.items) end c.loop-at.invariant.lows

@@ -55,6 +55,13 @@ advance-requires g c =
       known = λ _. bounded_here p (waiting c.loop-at.rows) c.loop-at.at within c.loop-at.here c.bounds_here-known.result c.loop-at.invariant.pass c.bounds_here-known.ensures;
     }
 
+pub meet-requires : goal.meet-requires
+meet-requires g c =
+    let code = c.args.program.now.image.code in
+    let few = c.args.program.now.image.few_slots in
+    let long = c.loop-at.invariant.meets.long in
+    record { few = omega (arith, long, few); within = omega (arith, c.loop-at-test.true, c.requires.within, code.ok.0, long) }
+
 pub loop-at-preserved : goal.loop-at-preserved
 loop-at-preserved g c = record {
   pass = c.in_ok-visit.ensures.pass;

@@ -13,14 +13,14 @@ returns-clause-here c = λ p rows found known behind slots old.
     let was = c.args.self.now.waiting in
     let led = c.join_target.new.waiting in
     let long = c.in_ok-join_target.ensures.long in
-    let there = slice_get_read led.items led.len (i + 1) c.index.result.now led.ok.0 (omega (arith, c.requires, long)) c.index.ensures in
+    let there = slice_get_read led.items led.len (i + 1) c.index.result.now led.ok.0 (omega (arith, c.requires.within, long)) c.index.ensures in
     c.go_on.ensures
     ∙ here_on p rows i x pairs c.args.next found known behind c.pairs.result
     (c.pairs.ensures
     ∙ sym (ap pairs_in there)
-    ∙ c.in_ok-join_target.ensures.pairs (i + 1) c.requires
+    ∙ c.in_ok-join_target.ensures.pairs (i + 1) c.requires.within
     ∙ ap (λ t. pairs_by_jump (i + 1) t pairs (brought_at was.items (i + 1))) c.target_of.ensures
-    ∙ ap (pairs_by_jump (i + 1) _ pairs) (old.waiting (i + 1) (omega arith) (omega (arith, c.requires, old.long))))
+    ∙ ap (pairs_by_jump (i + 1) _ pairs) (old.waiting (i + 1) (omega arith) (omega (arith, c.requires.within, old.long))))
 
 pub returns-clause-follows : goal.returns-clause-follows
 returns-clause-follows c = λ p rows found known slots old.
