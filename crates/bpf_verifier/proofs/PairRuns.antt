@@ -1,6 +1,6 @@
 -- The pairs that are known at a slot hold wherever a run comes there.
 use Rattle.std.proofs.Common.{◌≡◌, ℕ, zero, suc, ℤ, pos, negsuc, ◌+◌, ◌-◌, ◌^◌, ◌<◌, ◌≤◌, Bool, true, false, cond, not, ◌||◌, ◌&&◌, eqb, List, [], ◌∷◌, length, drop, Option, Some, None, refl, sym, ap, ◌∙◌, subst, inl, inr, ⊎_elim, arith}
-use Rattle.std.specs.Prelude.{◌+ℤ◌, max, nat_le, slice_get, unwrap_or}
+use Rattle.std.specs.Prelude.{◌+ℤ◌, nat_le, slice_get, unwrap_or}
 use Rattle.std.proofs.lemmas.Int.{ints}
 use Rattle.std.proofs.lemmas.Bool.{cond_both, cases_eq, eq-eqb, and_parts}
 use Rattle.bpf_alu.specs.Value.{value, condition}

@@ -1,6 +1,6 @@
 use Rattle.std.proofs.Common.{◌+◌, refl, sym, ap, ◌∙◌, arith}
 use Rattle.std.proofs.lemmas.Option.{slice_get_read}
-use Rattle.bpf_verifier.specs.PairSteps.{pairs_by_jump, pairs_by_next, pairs_come, pairs_behind}
+use Rattle.bpf_verifier.specs.PairSteps.{pairs_by_jump, pairs_behind}
 use Rattle.bpf_verifier.specs.Meetings.{pairs_in, brought_at}
 use Rattle.bpf_verifier.proofs.Meets.{here_on, behind_on}
 use Rattle.bpf_verifier.proofs.meetings.Meetings.meet.Goals as goal
