@@ -1,5 +1,6 @@
 pub mod RowSteps
 pub mod Noted
+pub mod Meets
 pub mod Waits
 pub mod Words
 pub mod SameReads

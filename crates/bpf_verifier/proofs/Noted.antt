@@ -1,4 +1,4 @@
--- What is known at a slot, from slot to slot: the sums and the pairs.
+-- What is known at a slot, from slot to slot: the sums.
 use Rattle.std.proofs.Common.{◌≡◌, ℕ, suc, ◌+◌, ◌<◌, Bool, ◌||◌, cond, List, Option, Some, None, sym, ap, ◌∙◌, subst, ⊎_elim, arith}
 use Rattle.std.specs.Prelude.{Result, Ok, Err, IfOk, IfSome, slice_get}
 use Rattle.std.proofs.lemmas.Bool.{cases_eq}
@@ -7,13 +7,9 @@ use Rattle.bpf_image.specs.Form.{target_of}
 use Rattle.bpf_copies.specs.Led.{is_slot, target_at, leads_before}
 use Rattle.bpf_verifier.specs.Sums.{KnownSums, no_sums, sums_after, sums_next, sums_at}
 use Rattle.bpf_semantics.specs.declared.profile.Profile.{Profile}
-use Rattle.bpf_verifier.specs.Program.{Program}
 use Rattle.bpf_verifier.specs.Table.{AreKinds}
 use Rattle.bpf_verifier.specs.Rows.{HasKinds}
 use Rattle.bpf_verifier.specs.Registers.{Row}
-use Rattle.bpf_verifier.specs.Pairs.{no_pairs}
-use Rattle.bpf_verifier.specs.PairSteps.{pairs_next, pairs_at}
-use Rattle.bpf_verifier.specs.declared.pair.Pairs.{Pairs}
 
 -- the slots to which jumps lead from one slot more
 pub led_on : (code : List Insn) (i k : ℕ) (x : Insn) → slice_get code i ≡ Some x → (is_slot k (target_of i x) || leads_before code i k) ≡ leads_before code (i + 1) k
@@ -29,17 +25,6 @@ pub sums_on : (code : List Insn) (i : ℕ) (x : Insn) (b : Bool) (sums : KnownSu
 sums_on code i x b sums at led is =
     let one : i + 1 ≡ suc i = omega arith in
     ap (λ s. cond b no_sums (sums_after x s)) is ∙ next_is code i x b at (led ∙ ap (λ n. leads_before code n n) one) ∙ ap (sums_at code) (sym one)
-
--- the pairs that are known at the next slot
-pub pairs_on : (p : Program) (rows : List (Option Row)) (i : ℕ) (b : Bool) (sums : KnownSums) (pairs next now : Pairs) → b ≡ leads_before p.code (i + 1) (i + 1) → sums ≡ sums_at p.code i → pairs ≡ pairs_at p rows i → next ≡ pairs_next p (slice_get p.code i) sums (slice_get rows i) pairs → now ≡ cond b no_pairs next → now ≡ pairs_at p rows (i + 1)
-pairs_on p rows i b sums pairs next now led summed paired is here =
-    let one : i + 1 ≡ suc i = omega arith in
-    here
-    ∙ ap (λ n. cond b no_pairs n) is
-    ∙ ap (λ s. cond b no_pairs (pairs_next p (slice_get p.code i) s (slice_get rows i) pairs)) summed
-    ∙ ap (λ q. cond b no_pairs (pairs_next p (slice_get p.code i) (sums_at p.code i) (slice_get rows i) q)) paired
-    ∙ ap (λ c. cond c no_pairs (pairs_next p (slice_get p.code i) (sums_at p.code i) (slice_get rows i) (pairs_at p rows i))) (led ∙ ap (λ n. leads_before p.code n n) one)
-    ∙ ap (pairs_at p rows) (sym one)
 
 -- what follows of an answer that is one
 pub if_ok : {T E : Type 0} (P Q : T → Type 0) (r : Result T E) → ((x : T) → P x → Q x) → IfOk r P → IfOk r Q

@@ -1,6 +1,5 @@
 -- What pairs tell of their registers: rows stay rows, and what they admit they still do.
-use Rattle.std.proofs.Common.{◌≡◌, ℕ, ◌+◌, ◌-◌, ◌^◌, ◌<◌, ◌≤◌, ◌∙◌, Option, Some, None, length-set, arith}
-use Rattle.std.specs.Prelude.{min}
+use Rattle.std.proofs.Common.{ℕ, ◌^◌, ◌<◌, ◌≤◌, ◌∙◌, Option, Some, None, length-set, arith}
 use Rattle.bpf_insn.specs.Encoding.{number}
 use Rattle.bpf_insn.specs.declared.Register.{Register}
 use Rattle.bpf_insn.specs.declared.Insn.{Insn}
@@ -13,7 +12,6 @@ use Rattle.bpf_copies.specs.Names.{Names, AreNamed}
 use Rattle.bpf_verifier.specs.Registers.{Row, IsLong, kind_at}
 use Rattle.bpf_verifier.specs.Rows.{StartsZero}
 use Rattle.bpf_verifier.specs.Sums.{register_at_most}
-use Rattle.bpf_verifier.specs.Naming.{named}
 use Rattle.bpf_verifier.specs.Paired.{told_pair, told_pairs, paired, narrowed}
 use Rattle.bpf_verifier.specs.Table.{AreKinds}
 use Rattle.bpf_verifier.specs.declared.pair.Pair.{Pair}

@@ -1,8 +1,8 @@
 -- The pairs that are known at a slot hold wherever a run comes there.
-use Rattle.std.proofs.Common.{◌≡◌, ℕ, zero, suc, ℤ, pos, negsuc, ◌+◌, ◌-◌, ◌^◌, ◌<◌, ◌≤◌, Bool, true, false, cond, not, ◌||◌, ◌&&◌, eqb, List, [], ◌∷◌, length, drop, Option, Some, None, refl, sym, ap, ◌∙◌, subst, inl, inr, arith}
+use Rattle.std.proofs.Common.{◌≡◌, ℕ, zero, suc, ℤ, pos, negsuc, ◌+◌, ◌-◌, ◌^◌, ◌<◌, ◌≤◌, Bool, true, false, cond, not, ◌||◌, ◌&&◌, eqb, List, [], ◌∷◌, length, drop, Option, Some, None, refl, sym, ap, ◌∙◌, subst, inl, inr, ⊎_elim, arith}
 use Rattle.std.specs.Prelude.{◌+ℤ◌, nat_le, slice_get, unwrap_or}
 use Rattle.std.proofs.lemmas.Int.{ints}
-use Rattle.std.proofs.lemmas.Bool.{cond_both, and_parts}
+use Rattle.std.proofs.lemmas.Bool.{cond_both, cases_eq, eq-eqb, and_parts}
 use Rattle.bpf_alu.specs.Value.{value, condition}
 use Rattle.bpf_alu.specs.declared.Op.{Op}
 use Rattle.bpf_alu.specs.declared.Op.TheVariants as op
@@ -27,12 +27,13 @@ use Rattle.bpf_helpers.specs.Calls.{calls_of}
 use Rattle.bpf_verifier.specs.Program.{Program}
 use Rattle.bpf_verifier.specs.Registers.{Row, IsLong, kind_at, kind_from}
 use Rattle.bpf_verifier.specs.Rules.{callee_in, refined}
-use Rattle.bpf_copies.specs.Led.{leads_before}
+use Rattle.bpf_copies.specs.Led.{is_slot}
+use Rattle.bpf_copies.specs.Names.{goes_on as runs_on}
 use Rattle.bpf_copies.proofs.Modular.{moved}
-use Rattle.bpf_copies.proofs.Slots.{leads, slot_on, two_on}
+use Rattle.bpf_copies.proofs.Slots.{slot_on, two_on}
 use Rattle.bpf_verifier.specs.Sums.{KnownSums, sum_in, sums_at, most, row_on}
-use Rattle.bpf_verifier.specs.Pairs.{no_pairs, is_in}
-use Rattle.bpf_verifier.specs.PairSteps.{pair_without, pairs_without, before, with_pair, partner, carried, carried_into, carried_from, pairs_of_sum, pairs_of_op, pair_over_call, pairs_over_call, pair_told, pair_by, pairs_by_operand, pairs_told, pairs_after, pairs_next, pairs_at}
+use Rattle.bpf_verifier.specs.Pairs.{no_pairs, is_in, most_together}
+use Rattle.bpf_verifier.specs.PairSteps.{pair_without, pairs_without, before, with_pair, partner, carried, carried_into, carried_from, pairs_of_sum, pairs_of_op, pair_over_call, pairs_over_call, pair_told, pair_by, pairs_by_operand, pairs_told, pairs_after, pairs_next, met_most, pair_met, met, pairs_by_jump, pairs_by_next, pairs_brought, pairs_come, pairs_behind, pairs_arriving, pairs_at}
 use Rattle.bpf_verifier.specs.Table.{target_edge, edges_from, AreKinds}
 use Rattle.bpf_verifier.specs.declared.sum.Sum.{Sum}
 use Rattle.bpf_verifier.specs.declared.pair.Pair.{Pair}
@@ -43,7 +44,7 @@ use Rattle.bpf_verifier.proofs.Refined.{refined_is_long, refined_kinds}
 use Rattle.bpf_verifier.proofs.SumSteps.{Adds, Holds, AllHold, told_long, told_kinds, most_of, most_word, le_from, at_register, at_operand, kind_operand, whole_sum}
 use Rattle.bpf_verifier.proofs.SumRuns.{Written, all_same, differ, no_not, operand_word, number_other, number_same}
 use Rattle.bpf_verifier.proofs.Classes.{or_left, or_right}
-use Rattle.bpf_verifier.proofs.Together.{PairHolds, HoldPairs, same_pairs, same_number}
+use Rattle.bpf_verifier.proofs.Together.{PairHolds, HoldPairs, IsEnd, same_pairs, same_number, together}
 
 none_hold : (t : State) → HoldPairs no_pairs t
 none_hold t = record { first = tt; second = tt; third = tt; fourth = tt }
@@ -230,6 +231,92 @@ module _ (sound : IsSoundTable Second) (profile : Profile) (t : State) (on : Row
   told_holds c w left right o First sums pairs adds h = h
   told_holds c w left right o Second sums pairs adds h = with_pair_holds t (pair_by (sum_in sums left) on) (pairs_by_operand sums right on pairs) (by_holds (sum_in sums left) (adds left)) (operand_holds sums right pairs adds h)
 
+-- ---- ways meet
+
+-- what came to a slot, and holds
+abbrev HoldIn : Option Pairs → State → Type 0
+HoldIn None t = ⊥
+HoldIn (Some pairs) t = HoldPairs pairs t
+
+module _ (t : State) where
+  greater_first : (pair : Pair) (o : Option ℕ) → PairHolds (Some pair) t → PairHolds (met_most pair o) t
+  greater_first pair None h = tt
+  greater_first pair (Some n) h = omega (arith, h)
+
+  greater_second : (pair : Pair) (o : Option ℕ) → IsEnd o (number_in t pair.left) (number_in t pair.right) → PairHolds (met_most pair o) t
+  greater_second pair None h = tt
+  greater_second pair (Some n) h = omega (arith, h)
+
+  met_first : (pair : Option Pair) (others : Pairs) → PairHolds pair t → PairHolds (pair_met pair others) t
+  met_first None others h = tt
+  met_first (Some pair) others h = greater_first pair (most_together others pair.left pair.right) h
+
+  met_second : (pair : Option Pair) (others : Pairs) → HoldPairs others t → PairHolds (pair_met pair others) t
+  met_second None others h = tt
+  met_second (Some pair) others h = greater_second pair (most_together others pair.left pair.right) (together others t pair.left pair.right h)
+
+  met_old : (old : Option Pairs) (pairs : Pairs) → HoldIn old t → HoldIn (met old pairs) t
+  met_old None pairs h = absurd h
+  met_old (Some old) pairs h = record { first = met_first old.first pairs h.first; second = met_first old.second pairs h.second; third = met_first old.third pairs h.third; fourth = met_first old.fourth pairs h.fourth }
+
+  met_new : (old : Option Pairs) (pairs : Pairs) → HoldPairs pairs t → HoldIn (met old pairs) t
+  met_new None pairs h = h
+  met_new (Some old) pairs h = record { first = met_second old.first pairs h; second = met_second old.second pairs h; third = met_second old.third pairs h; fourth = met_second old.fourth pairs h }
+
+  jump_old : (k : ℕ) (target : Option ℤ) (pairs : Pairs) (old : Option Pairs) → HoldIn old t → HoldIn (pairs_by_jump k target pairs old) t
+  jump_old k target pairs old h = cond_both (is_slot k target) (met old pairs) old (λ o. HoldIn o t) (λ _. met_old old pairs h) (λ _. h)
+
+  jump_new : (k : ℕ) (target : Option ℤ) (pairs : Pairs) (old : Option Pairs) → target ≡ Some (pos k) → HoldPairs pairs t → HoldIn (pairs_by_jump k target pairs old) t
+  jump_new k target pairs old to h =
+      subst (λ o. HoldIn (pairs_by_jump k o pairs old) t) (sym to) (subst (λ b. HoldIn (cond b (met old pairs) old) t) (sym (eq-eqb k k refl)) (met_new old pairs h))
+
+  next_old : (x : Insn) (behind : Pairs) (old : Option Pairs) → HoldIn old t → HoldIn (pairs_by_next x behind old) t
+  next_old x behind old h = cond_both (runs_on x) (met old behind) old (λ o. HoldIn o t) (λ _. met_old old behind h) (λ _. h)
+
+  brought_old : (k n : ℕ) (x : Option Insn) (pairs behind : Pairs) (old : Option Pairs) → HoldIn old t → HoldIn (pairs_brought k n x pairs behind old) t
+  brought_old k n None pairs behind old h = h
+  brought_old k n (Some x) pairs behind old h =
+      let led = pairs_by_jump k (target_of n x) pairs old in
+      let there = jump_old k (target_of n x) pairs old h in
+      cond_both (eqb (suc n) k) (pairs_by_next x behind led) led (λ o. HoldIn o t) (λ _. next_old x behind led there) (λ _. there)
+
+  come_holds : (o : Option Pairs) → HoldIn o t → HoldPairs (pairs_come o) t
+  come_holds None h = absurd h
+  come_holds (Some pairs) h = h
+
+module _ (p : Program) (rows : List (Option Row)) (k : ℕ) (t : State) where
+  -- what came still holds
+  later : (n m : ℕ) → m ≤ n → HoldIn (pairs_arriving p rows m k) t → HoldIn (pairs_arriving p rows n k) t
+  later zero m le h = let same : m ≡ zero = omega (arith, le) in subst (λ j. HoldIn (pairs_arriving p rows j k) t) same h
+  later (suc n) m le h =
+      let pairs = pairs_at p rows n in
+      ⊎_elim
+      (λ same. subst (λ j. HoldIn (pairs_arriving p rows j k) t) same h)
+      (λ other. brought_old t k n (slice_get p.code n) pairs (pairs_behind p rows n pairs) (pairs_arriving p rows n k) (later n m (omega (arith, le, other)) h))
+      (cases_eq m (suc n))
+
+  -- a jump leads there
+  led_to : (i : ℕ) (x : Insn) → i < k → slice_get p.code i ≡ Some x → target_of i x ≡ Some (pos k) → HoldPairs (pairs_at p rows i) t → HoldPairs (pairs_at p rows k) t
+  led_to i x lt at to h =
+      let pairs = pairs_at p rows i in
+      let behind = pairs_behind p rows i pairs in
+      let old = pairs_arriving p rows i k in
+      let led = pairs_by_jump k (target_of i x) pairs old in
+      let there = jump_new t k (target_of i x) pairs old to h in
+      let both : HoldIn (pairs_brought k i (Some x) pairs behind old) t = cond_both (eqb (suc i) k) (pairs_by_next x behind led) led (λ o. HoldIn o t) (λ _. next_old t x behind led there) (λ _. there) in
+      come_holds t (pairs_arriving p rows k k) (later k (suc i) (omega (arith, lt)) (subst (λ o. HoldIn (pairs_brought k i o pairs behind old) t) (sym at) both))
+
+-- and from one slot to the next
+on_to : (p : Program) (rows : List (Option Row)) (i k : ℕ) (x : Insn) (t : State) → k ≡ suc i → slice_get p.code i ≡ Some x → runs_on x ≡ true → HoldPairs (pairs_behind p rows i (pairs_at p rows i)) t → HoldPairs (pairs_at p rows k) t
+on_to p rows i k x t e at goes h =
+    let pairs = pairs_at p rows i in
+    let behind = pairs_behind p rows i pairs in
+    let old = pairs_arriving p rows i (suc i) in
+    let led = pairs_by_jump (suc i) (target_of i x) pairs old in
+    let on : HoldIn (pairs_by_next x behind led) t = subst (λ b. HoldIn (cond b (met led behind) led) t) (sym goes) (met_new t led behind h) in
+    let both : HoldIn (pairs_brought (suc i) i (Some x) pairs behind old) t = subst (λ b. HoldIn (cond b (pairs_by_next x behind led) led) t) (sym (eq-eqb (suc i) (suc i) refl)) on in
+    subst (λ n. HoldPairs (pairs_at p rows n) t) (sym e) (come_holds t (pairs_arriving p rows (suc i) (suc i)) (subst (λ o. HoldIn (pairs_brought (suc i) i o pairs behind old) t) (sym at) both))
+
 -- ---- slots
 
 -- where an edge of a jump is
@@ -238,31 +325,23 @@ jump_is (pos j) u vs row (inl e) = e.0
 jump_is (pos j) u vs row (inr e) = absurd e
 jump_is (negsuc j) u vs row e = absurd e
 
-both_ways : (b : Bool) → b ≡ true → b ≡ false → ⊥
-both_ways b t f = cc
-
 module _ (sound : (profile : Profile) → IsSoundTable profile) (p : Program) (rows : List (Option Row)) (s : State) (i : ℕ) (at : s.slot ≡ pos i) (eleven : length s.registers ≡ 11) (words : (r : Register) → number_in s r < 2 ^ 64) (row : Row) (here : slice_get rows i ≡ Some (Some row)) (long : IsLong p.profile row) (kinds : AreKinds row) (fits : FitsRow row (values p.profile s)) (hold : HoldPairs (pairs_at p rows i) s) (adds : AllHold (sums_at p.code i) s) (after_wide : (dst : Register) (n : ℕ) → slice_get p.code i ≡ Some (insn.Wide dst n) → slice_get p.code (i + 1) ≡ Some insn.Tail) where
-  -- where a jump leads no pair is known
-  led : (k : ℕ) (x : Insn) (t : State) → i < k → slice_get p.code i ≡ Some x → target_of i x ≡ Some (pos k) → HoldPairs (pairs_at p rows k) t
-  led zero x t lt there to = none_hold t
-  led (suc k) x t lt there to = subst (λ b. HoldPairs (cond b no_pairs (pairs_next p (slice_get p.code k) (sums_at p.code k) (slice_get rows k) (pairs_at p rows k))) t) (sym (leads p.code (suc k) i (suc k) x lt there to)) (none_hold t)
-
   -- from one slot to the next
-  next : (k : ℕ) (x : Insn) (t : State) → k ≡ suc i → slice_get p.code i ≡ Some x → (leads_before p.code (suc i) (suc i) ≡ false → HoldPairs (pairs_after p.profile (callee_in p.sigs x) (sums_at p.code i) row x (pairs_at p rows i)) t) → HoldPairs (pairs_at p rows k) t
-  next k x t e there h =
+  next : (k : ℕ) (x : Insn) (t : State) → k ≡ suc i → slice_get p.code i ≡ Some x → runs_on x ≡ true → HoldPairs (pairs_after p.profile (callee_in p.sigs x) (sums_at p.code i) row x (pairs_at p rows i)) t → HoldPairs (pairs_at p rows k) t
+  next k x t e there goes h =
       let sums = sums_at p.code i in
       let pairs = pairs_at p rows i in
-      subst (λ n. HoldPairs (pairs_at p rows n) t) (sym e)
-      (cond_both (leads_before p.code (suc i) (suc i)) no_pairs (pairs_next p (slice_get p.code i) sums (slice_get rows i) pairs) (λ q. HoldPairs q t) (λ _. none_hold t)
-      (λ f. subst (λ o. HoldPairs (pairs_next p o sums (slice_get rows i) pairs) t) (sym there) (subst (λ o. HoldPairs (pairs_next p (Some x) sums o pairs) t) (sym here) (h f))))
+      on_to p rows i k x t e there goes
+      (subst (λ o. HoldPairs (pairs_next p o sums (slice_get rows i) pairs) t) (sym there) (subst (λ o. HoldPairs (pairs_next p (Some x) sums o pairs) t) (sym here) h))
 
-  goes_on : (k : ℕ) (x : Insn) (t u : State) → slice_get p.code i ≡ Some x → t ≡ advanced u → u.slot ≡ s.slot → t.slot ≡ pos k → HoldPairs (pairs_after p.profile (callee_in p.sigs x) (sums_at p.code i) row x (pairs_at p rows i)) (advanced u) → HoldPairs (pairs_at p rows k) t
-  goes_on k x t u there e same to h =
+  goes_on : (k : ℕ) (x : Insn) (t u : State) → slice_get p.code i ≡ Some x → runs_on x ≡ true → t ≡ advanced u → u.slot ≡ s.slot → t.slot ≡ pos k → HoldPairs (pairs_after p.profile (callee_in p.sigs x) (sums_at p.code i) row x (pairs_at p rows i)) (advanced u) → HoldPairs (pairs_at p rows k) t
+  goes_on k x t u there goes e same to h =
       let step : (s.slot +ℤ pos 1) ≡ pos k = ap (λ z. z +ℤ pos 1) (sym same) ∙ sym (ap (λ v. v.slot) e) ∙ to in
-      next k x t (slot_on s.slot i k at step) there (λ _. subst (HoldPairs (pairs_after p.profile (callee_in p.sigs x) (sums_at p.code i) row x (pairs_at p rows i))) (sym e) h)
+      next k x t (slot_on s.slot i k at step) there goes (subst (HoldPairs (pairs_after p.profile (callee_in p.sigs x) (sums_at p.code i) row x (pairs_at p rows i))) (sym e) h)
 
-  goes_to : (k : ℕ) (x : Insn) (t : State) (o : ℤ) → i < k → slice_get p.code i ≡ Some x → target_of i x ≡ Some (landing i o) → (s.slot +ℤ pos 1 +ℤ o) ≡ pos k → HoldPairs (pairs_at p rows k) t
-  goes_to k x t o lt there to slot = led k x t lt there (to ∙ ap Some (ap (λ z. z +ℤ pos 1 +ℤ o) (sym at) ∙ slot))
+  -- where a jump leads what is known before it is
+  goes_to : (k : ℕ) (x : Insn) (t : State) (o : ℤ) → t.registers ≡ s.registers → i < k → slice_get p.code i ≡ Some x → target_of i x ≡ Some (landing i o) → (s.slot +ℤ pos 1 +ℤ o) ≡ pos k → HoldPairs (pairs_at p rows k) t
+  goes_to k x t o same lt there to slot = led_to p rows k t i x lt there (to ∙ ap Some (ap (λ z. z +ℤ pos 1 +ℤ o) (sym at) ∙ slot)) (same_pairs (pairs_at p rows i) s t same hold)
 
   left_most : (r : Register) → number_in s r ≤ most (kind_at row r)
   left_most r = let x = at_register (sound Second) p.profile s row long kinds fits r in most_of (kind_at row r) _ (kinds (number r)) x.1 x.0
@@ -273,21 +352,22 @@ module _ (sound : (profile : Profile) → IsSoundTable profile) (p : Program) (r
   right_word : (o : Operand) → most (kind_from Second row o) < 2 ^ 64
   right_word o = most_word (kind_from Second row o) (kind_operand (sound Second) p.profile s row long kinds fits o)
 
-  -- a condition that isn't taken, where no jump leads to the next slot: so it is the row on to it that admits the state
-  passed : (c : Cond) (w : Width) (left : Register) (right : Operand) (o : ℤ) → slice_get p.code i ≡ Some (insn.JumpIf c w left right o) → leads_before p.code (suc i) (suc i) ≡ false → SomeEdge (s.slot +ℤ pos 1) (values p.profile (advanced s)) (edges_from p.profile (callee_in p.sigs (insn.JumpIf c w left right o)) (sums_at p.code i) (pairs_at p rows i) i row (insn.JumpIf c w left right o)) → HoldPairs (pairs_after p.profile (callee_in p.sigs (insn.JumpIf c w left right o)) (sums_at p.code i) row (insn.JumpIf c w left right o) (pairs_at p rows i)) (advanced s)
-  passed c w left right o there free (inl e) =
+  -- a condition that isn't taken: it is the row on to the next slot that admits the state, or that where the jump leads, which is there too
+  passed : (k : ℕ) (c : Cond) (w : Width) (left : Register) (right : Operand) (o : ℤ) → k ≡ suc i → slice_get p.code i ≡ Some (insn.JumpIf c w left right o) → SomeEdge (s.slot +ℤ pos 1) (values p.profile (advanced s)) (edges_from p.profile (callee_in p.sigs (insn.JumpIf c w left right o)) (sums_at p.code i) (pairs_at p rows i) i row (insn.JumpIf c w left right o)) → HoldPairs (pairs_at p rows k) (advanced s)
+  passed k c w left right o is there (inl e) =
       let x = insn.JumpIf c w left right o in
       let sums = sums_at p.code i in
       let after = refined p.profile c w left right false row in
-      told_holds (sound Second) p.profile (advanced s) (row_on p.profile (callee_in p.sigs x) sums (pairs_at p rows i) row x)
+      next k x (advanced s) is there refl
+      (told_holds (sound Second) p.profile (advanced s) (row_on p.profile (callee_in p.sigs x) sums (pairs_at p rows i) row x)
       (told_long p.profile x sums after (refined_is_long p.profile c w left right false row long))
       (told_kinds (sound Second) p.profile x sums after (refined_kinds p.profile (sound p.profile) c w left right false row kinds))
-      e.1 c w left right o p.profile sums (pairs_at p rows i) (all_same sums s (advanced s) refl adds) (same_pairs (pairs_at p rows i) s (advanced s) refl hold)
-  passed c w left right o there free (inr e) =
+      e.1 c w left right o p.profile sums (pairs_at p rows i) (all_same sums s (advanced s) refl adds) (same_pairs (pairs_at p rows i) s (advanced s) refl hold))
+  passed k c w left right o is there (inr e) =
       let x = insn.JumpIf c w left right o in
       let on : (s.slot +ℤ pos 1) ≡ pos (suc i) = let h = ap (λ z. z +ℤ pos 1) at in omega (arith, ints, h) in
-      let to = jump_is (landing i o) (s.slot +ℤ pos 1) _ _ e ∙ on in
-      absurd (both_ways (leads_before p.code (suc i) (suc i)) (leads p.code (suc i) i (suc i) x (omega arith) there (ap Some to)) free)
+      let to : landing i o ≡ pos k = jump_is (landing i o) (s.slot +ℤ pos 1) _ _ e ∙ on ∙ ap pos (sym is) in
+      led_to p rows k (advanced s) i x (omega (arith, is)) there (ap Some to) (same_pairs (pairs_at p rows i) s (advanced s) refl hold)
 
   tail_none : (sums : KnownSums) (o : Option (Option Row)) (pairs : Pairs) (t : State) → HoldPairs (pairs_next p (Some insn.Tail) sums o pairs) t
   tail_none sums None pairs t = none_hold t
@@ -295,26 +375,25 @@ module _ (sound : (profile : Profile) → IsSoundTable profile) (p : Program) (r
   tail_none sums (Some (Some q)) pairs t = none_hold t
 
   pub pairs_held : (k : ℕ) (x : Insn) (t : State) → i < k → slice_get p.code i ≡ Some x → t.slot ≡ pos k → SomeEdge t.slot (values p.profile t) (edges_from p.profile (callee_in p.sigs x) (sums_at p.code i) (pairs_at p rows i) i row x) → Does (calls_of p.sigs) x s t → HoldPairs (pairs_at p rows k) t
-  pairs_held k (insn.Alu o w dst src) t lt there to e d = goes_on k _ t (with_register dst (value o w (number_in s dst) (operand_in s src)) s) there d refl to (alu_holds s eleven words row left_most right_most right_word o w dst src (pairs_at p rows i) hold)
-  pairs_held k (insn.Swap kind n dst) t lt there to e d = goes_on k _ t _ there d refl to (none_hold _)
-  pairs_held k (insn.Load size extend dst r offset) t lt there to e d = goes_on k _ t (with_register dst _ s) there d.2 refl to (all_without s eleven words dst _ (pairs_at p rows i) hold)
-  pairs_held k (insn.Store size r offset src) t lt there to e d = goes_on k _ t _ there d.2 refl to (same_pairs (pairs_at p rows i) s _ refl hold)
-  pairs_held k (insn.Jump (distance.Near o)) t lt there to e d = goes_to k _ t o lt there refl (sym (ap (λ v. v.slot) d) ∙ to)
-  pairs_held k (insn.Jump (distance.Far o)) t lt there to e d = goes_to k _ t o lt there refl (sym (ap (λ v. v.slot) d) ∙ to)
+  pairs_held k (insn.Alu o w dst src) t lt there to e d = goes_on k _ t (with_register dst (value o w (number_in s dst) (operand_in s src)) s) there refl d refl to (alu_holds s eleven words row left_most right_most right_word o w dst src (pairs_at p rows i) hold)
+  pairs_held k (insn.Swap kind n dst) t lt there to e d = goes_on k _ t _ there refl d refl to (none_hold _)
+  pairs_held k (insn.Load size extend dst r offset) t lt there to e d = goes_on k _ t (with_register dst _ s) there refl d.2 refl to (all_without s eleven words dst _ (pairs_at p rows i) hold)
+  pairs_held k (insn.Store size r offset src) t lt there to e d = goes_on k _ t _ there refl d.2 refl to (same_pairs (pairs_at p rows i) s _ refl hold)
+  pairs_held k (insn.Jump (distance.Near o)) t lt there to e d = goes_to k _ t o (ap (λ v. v.registers) d) lt there refl (sym (ap (λ v. v.slot) d) ∙ to)
+  pairs_held k (insn.Jump (distance.Far o)) t lt there to e d = goes_to k _ t o (ap (λ v. v.registers) d) lt there refl (sym (ap (λ v. v.slot) d) ∙ to)
   pairs_held k (insn.JumpIf c w left right o) t lt there to e d =
       let x = insn.JumpIf c w left right o in
       let P : State → Type 0 = λ u. u.slot ≡ pos k → SomeEdge u.slot (values p.profile u) (edges_from p.profile (callee_in p.sigs x) (sums_at p.code i) (pairs_at p rows i) i row x) → HoldPairs (pairs_at p rows k) u in
       subst P (sym d)
       (cond_both (condition c w (number_in s left) (operand_in s right)) (jumped o s) (advanced s) P
-      (λ _ slot _. goes_to k x (jumped o s) o lt there refl slot)
-      (λ _ slot edge. next k x (advanced s) (slot_on s.slot i k at slot) there (λ free. passed c w left right o there free edge)))
+      (λ _ slot _. goes_to k x (jumped o s) o refl lt there refl slot)
+      (λ _ slot edge. passed k c w left right o (slot_on s.slot i k at slot) there edge))
       to e
-  pairs_held k (insn.Call n) t lt there to e d = goes_on k _ t (record s { registers = Some d.0 ∷ None ∷ None ∷ None ∷ None ∷ None ∷ drop 6 s.registers; memory = d.1 }) there d.3 refl to (call_holds s d.0 d.1 (pairs_at p rows i) hold)
+  pairs_held k (insn.Call n) t lt there to e d = goes_on k _ t (record s { registers = Some d.0 ∷ None ∷ None ∷ None ∷ None ∷ None ∷ drop 6 s.registers; memory = d.1 }) there refl d.3 refl to (call_holds s d.0 d.1 (pairs_at p rows i) hold)
   pairs_held k insn.Exit t lt there to e d = absurd d
   pairs_held k (insn.Wide dst n) t lt there to e d =
       let tail : slice_get p.code (suc i) ≡ Some insn.Tail = ap (slice_get p.code) (omega arith) ∙ after_wide dst n there in
       let two = two_on s.slot i k at (sym (ap (λ v. v.slot) d) ∙ to) in
-      subst (λ m. HoldPairs (pairs_at p rows m) t) (sym two)
-      (cond_both (leads_before p.code (suc (suc i)) (suc (suc i))) no_pairs (pairs_next p (slice_get p.code (suc i)) (sums_at p.code (suc i)) (slice_get rows (suc i)) (pairs_at p rows (suc i))) (λ q. HoldPairs q t) (λ _. none_hold t)
-      (λ _. subst (λ o. HoldPairs (pairs_next p o (sums_at p.code (suc i)) (slice_get rows (suc i)) (pairs_at p rows (suc i))) t) (sym tail) (tail_none (sums_at p.code (suc i)) (slice_get rows (suc i)) (pairs_at p rows (suc i)) t)))
+      on_to p rows (suc i) k insn.Tail t two tail refl
+      (subst (λ o. HoldPairs (pairs_next p o (sums_at p.code (suc i)) (slice_get rows (suc i)) (pairs_at p rows (suc i))) t) (sym tail) (tail_none (sums_at p.code (suc i)) (slice_get rows (suc i)) (pairs_at p rows (suc i)) t))
   pairs_held k insn.Tail t lt there to e d = absurd d

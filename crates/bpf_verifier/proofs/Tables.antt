@@ -10,10 +10,8 @@ use Rattle.bpf_verifier.specs.Registers.{Row, entry}
 use Rattle.bpf_verifier.specs.Rows.{row_at, push_one, pushed, Misses, HasKinds, AreRowKinds, IsPass}
 use Rattle.bpf_copies.proofs.Held.{names_below}
 use Rattle.bpf_verifier.specs.Naming.{bounds_of, bounds_at, names_in}
-use Rattle.bpf_copies.specs.Led.{leads_before}
 use Rattle.bpf_verifier.specs.Sums.{sums_at}
-use Rattle.bpf_verifier.specs.Pairs.{no_pairs}
-use Rattle.bpf_verifier.specs.PairSteps.{pairs_next, pairs_at}
+use Rattle.bpf_verifier.specs.PairSteps.{pairs_next, pairs_brought, pairs_come, pairs_behind, pairs_arriving, pairs_at}
 use Rattle.bpf_verifier.specs.Table.{Edge, joined, into, edges_of, arrivals, rows_before, table}
 
 -- ---- the table's rows
@@ -44,12 +42,18 @@ at_rows p (suc n) m h =
     (cases_lt m n)
 
 -- what the rows above say is not read
+arriving_below : (p : Program) (rows rows' : List (Option Row)) (n k : ℕ) → ((m : ℕ) → m < n → slice_get rows m ≡ slice_get rows' m) → pairs_arriving p rows n k ≡ pairs_arriving p rows' n k
+arriving_below p rows rows' zero k h = refl
+arriving_below p rows rows' (suc n) k h =
+    let below : (m : ℕ) → m < n → slice_get rows m ≡ slice_get rows' m = λ m lt. h m (omega (arith, lt)) in
+    let x = slice_get p.code n in
+    let sums = sums_at p.code n in
+    ap (λ o. pairs_brought k n x (pairs_at p rows n) (pairs_next p x sums o (pairs_at p rows n)) (pairs_arriving p rows n k)) (h n (omega arith))
+    ∙ ap (λ a. pairs_brought k n x (pairs_come a) (pairs_next p x sums (slice_get rows' n) (pairs_come a)) (pairs_arriving p rows n k)) (arriving_below p rows rows' n n below)
+    ∙ ap (pairs_brought k n x (pairs_at p rows' n) (pairs_behind p rows' n (pairs_at p rows' n))) (arriving_below p rows rows' n k below)
+
 pairs_below : (p : Program) (rows rows' : List (Option Row)) (n : ℕ) → ((m : ℕ) → m < n → slice_get rows m ≡ slice_get rows' m) → pairs_at p rows n ≡ pairs_at p rows' n
-pairs_below p rows rows' zero h = refl
-pairs_below p rows rows' (suc n) h =
-    let led = leads_before p.code (suc n) (suc n) in
-    ap (λ o. cond led no_pairs (pairs_next p (slice_get p.code n) (sums_at p.code n) o (pairs_at p rows n))) (h n (omega arith))
-    ∙ ap (λ q. cond led no_pairs (pairs_next p (slice_get p.code n) (sums_at p.code n) (slice_get rows' n) q)) (pairs_below p rows rows' n (λ m lt. h m (omega arith)))
+pairs_below p rows rows' n h = ap pairs_come (arriving_below p rows rows' n n h)
 
 same_below : (p : Program) (rows rows' : List (Option Row)) (n k : ℕ) → ((m : ℕ) → m < n → slice_get rows m ≡ slice_get rows' m) → arrivals p rows n k ≡ arrivals p rows' n k
 same_below p rows rows' zero k h = refl

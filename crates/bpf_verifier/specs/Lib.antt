@@ -14,6 +14,7 @@ pub mod Paired
 pub mod Table
 pub mod Rows
 pub mod Waiting
+pub mod Meetings
 pub mod Known
 pub mod Verdict
 pub mod Plain

@@ -1,6 +1,6 @@
--- Which pairs are known, from slot to slot: told where a condition on a sum isn't taken, and carried on through copies and sums as long as
--- no jump leads there (this store's second profile).
-use Rattle.std.specs.Prelude.{ℕ, zero, suc, ◌+◌, ◌-◌, ◌^◌, ◌==◌, nat_le, not, ◌&&◌, if◌then◌else◌, Option, None, Some, List, slice_get}
+-- Which pairs are known, from slot to slot: told where a condition on a sum isn't taken, carried on through copies and sums, and kept where
+-- ways meet as far as they agree (this store's second profile).
+use Rattle.std.specs.Prelude.{ℕ, zero, suc, ℤ, ◌+◌, ◌-◌, ◌^◌, ◌==◌, max, nat_le, not, ◌&&◌, if◌then◌else◌, Option, None, Some, List, slice_get}
 use Rattle.bpf_alu.specs.declared.Op.{Op}
 use Rattle.bpf_alu.specs.declared.Op.TheVariants.{Mov, Add}
 use Rattle.bpf_alu.specs.declared.Width.{Width}
@@ -17,8 +17,10 @@ use Rattle.bpf_helpers.specs.Calls.{Callee}
 use Rattle.bpf_verifier.specs.Program.{Program}
 use Rattle.bpf_verifier.specs.Registers.{Row, kind_at, kind_from}
 use Rattle.bpf_verifier.specs.Rules.{callee_in}
-use Rattle.bpf_verifier.specs.Pairs.{no_pairs, is_in}
-use Rattle.bpf_copies.specs.Led.{leads_before}
+use Rattle.bpf_verifier.specs.Pairs.{no_pairs, is_in, most_together}
+use Rattle.bpf_image.specs.Form.{target_of}
+use Rattle.bpf_copies.specs.Led.{is_slot}
+use Rattle.bpf_copies.specs.Names.{goes_on}
 use Rattle.bpf_verifier.specs.Sums.{KnownSums, sum_in, sums_at, most, row_on}
 use Rattle.bpf_verifier.specs.declared.sum.Sum.{Sum}
 use Rattle.bpf_verifier.specs.declared.pair.Pair.{Pair}
@@ -135,8 +137,57 @@ abbrev pub pairs_next : Program → Option Insn → KnownSums → Option (Option
 pairs_next p (Some x) sums (Some (Some row)) pairs = pairs_after p.profile (callee_in p.sigs x) sums row x pairs
 pairs_next p x sums row pairs = no_pairs
 
--- the pairs that are known at a slot by the rows of lower ones: none where a jump leads there
+-- ---- ways meet: what is known of two registers on both is known there, with the greater most
+
+abbrev pub met_most : Pair → Option ℕ → Option Pair
+met_most pair None = None
+met_most pair (Some n) = Some (record { left = pair.left; right = pair.right; most = max pair.most n })
+
+abbrev pub pair_met : Option Pair → Pairs → Option Pair
+pair_met None others = None
+pair_met (Some pair) others = met_most pair (most_together others pair.left pair.right)
+
+abbrev pub pairs_met : Pairs → Pairs → Pairs
+pairs_met pairs others = record { first = pair_met pairs.first others; second = pair_met pairs.second others; third = pair_met pairs.third others; fourth = pair_met pairs.fourth others }
+
+-- with what came there before, if anything did
+abbrev pub met : Option Pairs → Pairs → Option Pairs
+met None pairs = Some pairs
+met (Some old) pairs = Some (pairs_met old pairs)
+
+-- ---- edges
+
+-- a jump brings the pairs before it
+abbrev pub pairs_by_jump : ℕ → Option ℤ → Pairs → Option Pairs → Option Pairs
+pairs_by_jump k target pairs before = if is_slot k target then met before pairs else before
+
+-- and an instruction that goes on those behind it
+abbrev pub pairs_by_next : Insn → Pairs → Option Pairs → Option Pairs
+pairs_by_next x next before = if goes_on x then met before next else before
+
+-- what the instruction of slot n, before and behind which pairs are known, brings to slot k, joined to what came there before
+abbrev pub pairs_brought : ℕ → ℕ → Option Insn → Pairs → Pairs → Option Pairs → Option Pairs
+pairs_brought k n None pairs next before = before
+pairs_brought k n (Some x) pairs next before =
+    let led = pairs_by_jump k (target_of n x) pairs before in
+    if suc n == k then pairs_by_next x next led else led
+
+-- none where nothing comes
+abbrev pub pairs_come : Option Pairs → Pairs
+pairs_come None = no_pairs
+pairs_come (Some pairs) = pairs
+
+-- those behind slot n, by the pairs before it
+abbrev pub pairs_behind : Program → List (Option Row) → ℕ → Pairs → Pairs
+pairs_behind p rows n pairs = pairs_next p (slice_get p.code n) (sums_at p.code n) (slice_get rows n) pairs
+
+-- what the instructions of the first n slots bring to slot k
+abbrev pub pairs_arriving : Program → List (Option Row) → ℕ → ℕ → Option Pairs
+pairs_arriving p rows zero k = if k == 0 then Some no_pairs else None
+pairs_arriving p rows (suc n) k =
+    let pairs = pairs_come (pairs_arriving p rows n n) in
+    pairs_brought k n (slice_get p.code n) pairs (pairs_behind p rows n pairs) (pairs_arriving p rows n k)
+
+-- the pairs that are known at a slot by the rows of lower ones: what all these bring there
 abbrev pub pairs_at : Program → List (Option Row) → ℕ → Pairs
-pairs_at p rows zero = no_pairs
-pairs_at p rows (suc i) =
-    if leads_before p.code (suc i) (suc i) then no_pairs else pairs_next p (slice_get p.code i) (sums_at p.code i) (slice_get rows i) (pairs_at p rows i)
+pairs_at p rows k = pairs_come (pairs_arriving p rows k k)

@@ -1,12 +1,12 @@
 //! Which pairs of registers are known at a slot, and what they tell.
 
-ghost use Rattle.std.specs.Prelude.{◌≡◌, ◌<◌, ℕ, Bool, true, Some, List, length, slice_get, if◌then◌else◌};
+ghost use Rattle.std.specs.Prelude.{◌≡◌, ℕ, true, Some, List};
 ghost use Rattle.bpf_semantics.specs.declared.profile.Profile.TheVariants.{Second};
 ghost use Rattle.bpf_verifier.specs.Table.{AreKinds};
 ghost use Rattle.bpf_verifier.specs.Sums.{sum_at_most, summed, told};
 ghost use Rattle.bpf_verifier.specs.Pairs.{no_pairs, is_in, are_of, most_in, most_together, argument_ends};
 ghost use Rattle.bpf_verifier.specs.Paired.{told_by_pair, told_pair, told_pairs, paired, narrowed};
-ghost use Rattle.bpf_verifier.specs.PairSteps.{pair_without, pairs_without, before, with_pair, partner, carried, carried_into, carried_from, pairs_of_sum, pairs_of_op, pair_over_call, pairs_over_call, pairs_over, pair_of, pair_told, pair_by, pairs_by_operand, pairs_told};
+ghost use Rattle.bpf_verifier.specs.PairSteps.{pair_without, pairs_without, before, with_pair, partner, carried, carried_into, carried_from, pairs_of_sum, pairs_of_op, pair_over_call, pairs_over_call, pairs_over, pair_of, pair_told, pair_by, pairs_by_operand, pairs_told, met_most, pair_met, pairs_met};
 
 use crate::kinds::{kind_of, kind_of_operand};
 use crate::naming::tell_named;
@@ -262,7 +262,7 @@ fn pairs_over_call(pairs: Pairs) -> Pairs
 }
 
 /// Whether no pair is known.
-fn are_none(pairs: Pairs) -> bool
+pub fn are_none(pairs: Pairs) -> bool
     ensures { result ≡ true → pairs ≡ no_pairs }
 {
     pairs.first.is_none()
@@ -373,13 +373,40 @@ pub fn pairs_told(
     }
 }
 
-/// The pairs that are known at a slot: none where a jump leads there. The flags say to which slots jumps lead.
-#[inline(always)]
-pub fn pairs_here(led: &[bool], at: usize, pairs: Pairs) -> Pairs
-    requires { at < length led.now }
-    ensures { (here : Bool) → slice_get led.now at ≡ Some here → result ≡ (if here then no_pairs else pairs) }
+/// A pair, with what its registers are at most by others, if that is known: the greater most.
+fn met_most(pair: Pair, most: Option<u64>) -> Option<Pair>
+    ensures { result ≡ met_most pair most }
 {
-    if led[at] { no_pairs() } else { pairs }
+    match most {
+        Some(most) => Some(Pair {
+            left: pair.left,
+            right: pair.right,
+            most: pair.most.max(most),
+        }),
+        None => None,
+    }
+}
+
+/// What is known on both ways that meet of a pair's registers: the greater most.
+fn pair_met(pair: Option<Pair>, others: Pairs) -> Option<Pair>
+    ensures { result ≡ pair_met pair others }
+{
+    match pair {
+        Some(pair) => met_most(pair, most_together(others, pair.left, pair.right)),
+        None => None,
+    }
+}
+
+/// The pairs that are known on both ways that meet.
+pub fn pairs_met(pairs: Pairs, others: Pairs) -> Pairs
+    ensures { result ≡ pairs_met pairs others }
+{
+    Pairs {
+        first: pair_met(pairs.first, others),
+        second: pair_met(pairs.second, others),
+        third: pair_met(pairs.third, others),
+        fourth: pair_met(pairs.fourth, others),
+    }
 }
 
 /// Narrows a register that holds the sum of two, if it is known what they are at most together.

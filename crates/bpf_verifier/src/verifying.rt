@@ -22,9 +22,10 @@ use crate::candidate::Candidate;
 use crate::cells::{lowered, span_written};
 use crate::edges::{lead_on, narrowed_edge, take_waiting};
 use crate::kinds::one_number;
+use crate::meetings::Meetings;
 use crate::naming::bounds_here;
 use crate::pair::Pairs;
-use crate::pairs::{narrow, no_pairs, pairs_here, pairs_over, pairs_told, tell_on};
+use crate::pairs::{narrow, no_pairs, pairs_over, pairs_told, tell_on};
 use crate::rule::{KindRule, Refused, Rule};
 use crate::rules::advance;
 use crate::slots::lower_slot;
@@ -170,6 +171,9 @@ fn check_rows<const N: usize>(alloc: Global, program: &Candidate) -> Result<Vec<
     let Ok(mut sums) = Sums::new(alloc, program.image.profile, slots + 1) else {
         return Err(no_memory());
     };
+    let Ok(mut meetings) = Meetings::none_yet(alloc, slots + 1) else {
+        return Err(no_memory());
+    };
     let Ok(mut lows) = vec![in alloc; tail(); slots] else {
         return Err(no_memory());
     };
@@ -179,14 +183,19 @@ fn check_rows<const N: usize>(alloc: Global, program: &Candidate) -> Result<Vec<
     let mut pairs = no_pairs();
     for at in 0..slots {
         lows[at] = lower_slot(program, at, &here);
+        let insn = program.image.code[at];
         let known = bounds_here(program, at, &here);
+        let mut next = pairs;
         visit(
-            program, at, &mut rows, &mut here, &sums, &mut pairs, &mut taken,
+            program, at, &mut rows, &mut here, &sums, &mut next, &mut taken,
         )?;
         let Ok(()) = sums.advance(program, at, known) else {
             return Err(no_memory());
         };
-        pairs = pairs_here(&sums.led, at + 1, pairs);
+        let Ok(met) = meetings.meet(at, insn, pairs, next) else {
+            return Err(no_memory());
+        };
+        pairs = met;
     }
     Ok(lows)
 }
@@ -227,19 +236,27 @@ fn known_before<const N: usize>(
     let Ok(mut sums) = Sums::new(alloc, program.image.profile, slots + 1) else {
         return Err(no_memory());
     };
+    let Ok(mut meetings) = Meetings::none_yet(alloc, slots + 1) else {
+        return Err(no_memory());
+    };
     let first: [Kind; N] = entry(program);
     let mut here = Some(first);
     let mut taken = first;
     let mut pairs = no_pairs();
     for at in 0..slot {
+        let insn = program.image.code[at];
         let known = bounds_here(program, at, &here);
+        let mut next = pairs;
         visit(
-            program, at, &mut rows, &mut here, &sums, &mut pairs, &mut taken,
+            program, at, &mut rows, &mut here, &sums, &mut next, &mut taken,
         )?;
         let Ok(()) = sums.advance(program, at, known) else {
             return Err(no_memory());
         };
-        pairs = pairs_here(&sums.led, at + 1, pairs);
+        let Ok(met) = meetings.meet(at, insn, pairs, next) else {
+            return Err(no_memory());
+        };
+        pairs = met;
     }
     Ok((here, pairs))
 }

@@ -1098,6 +1098,15 @@ SHORT = struct.pack("<II", 2, 3) + PLACES[8:]
 # An index and a length of more than 3: 9 and 5.
 FIVE = struct.pack("<II", 9, 5) + PLACES[8:]
 
+# An index and a length of a byte each, in R7 and R8, and their sum in R6.
+BYTES = [load_byte(7, 1, 0), load_byte(8, 1, 4), *WHOLE, CLEAR]
+
+
+def either_test(test, other, moves):
+    """What some slots come to, behind one of two tests of that sum: the first where a third byte isn't 0."""
+    return [*BYTES, load_byte(5, 1, 12), fields(0x15, 5, 0, 2, 0), test, jump(3), *WHOLE, other, *moves, EXIT]
+
+
 # Two indices of 2 bytes that are alike, and that length between them.
 ALIKE_TWO = struct.pack("<III", 12, 2, 14) + bytes([5, 6, 5, 6])
 
@@ -1124,14 +1133,14 @@ PAIRS = [
     ("bytes from an index on, by a sum of 32 bits", bytes_where(ALIKE, [copied(6, 7), fields(0x0C, 6, 8, 0, 0)]), TWO, refused(28, 9), refused(23, 6)),
     ("bytes from an index on, as many in 32 bits", bytes_where([added(1, 7), copied(2, 1), fields(0xBC, 3, 8, 0, 0), call(3)]), TWO, refused(28, 9), refused(23, 6)),
     ("bytes from an index on, the length read anew", bytes_where([load_byte(8, 1, 4), *ALIKE]), TWO, refused(28, 10), refused(23, 7)),
-    ("bytes from an index on where a jump leads", bytes_where([added(1, 7), jump(0), *ALIKE[1:]]), TWO, refused(28, 10), refused(23, 6)),
+    ("bytes from an index on where a jump leads", bytes_where([added(1, 7), jump(0), *ALIKE[1:]]), TWO, comes_to(1, 12), refused(23, 6)),
     ("bytes from an index on, another number tested", bytes_where(ALIKE, WHOLE, fields(0x2D, 7, 2, 0, 0)), TWO, refused(28, 9), refused(28, 9)),
     # the sum of a pair
     ("the last byte from an index on", bytes_where([fields(0x15, 8, 0, 3, 0), added(1, 7), added(1, 8), load_byte(0, 1, -1)]), TWO, comes_to(11, 11), refused(23, 7)),
     ("the last byte from an index on, one further", bytes_where([fields(0x15, 8, 0, 3, 0), added(1, 7), added(1, 8), load_byte(0, 1, 0)]), TWO, refused(24, 9), refused(23, 7)),
     ("the last byte from an index on, by a copy", bytes_where([fields(0x15, 8, 0, 4, 0), copied(9, 7), added(9, 8), added(1, 9), load_byte(0, 1, -1)]), TWO, comes_to(11, 12), refused(23, 9)),
     ("the last byte from an index on, added in 32 bits", bytes_where([fields(0x15, 8, 0, 4, 0), copied(9, 7), fields(0x0C, 9, 8, 0, 0), added(1, 9), load_byte(0, 1, -1)]), TWO, refused(24, 10), refused(23, 9)),
-    ("the last byte from an index on, where a jump leads", bytes_where([fields(0x15, 8, 0, 4, 0), jump(0), added(1, 7), added(1, 8), load_byte(0, 1, -1)]), TWO, refused(24, 10), refused(23, 8)),
+    ("the last byte from an index on, where a jump leads", bytes_where([fields(0x15, 8, 0, 4, 0), jump(0), added(1, 7), added(1, 8), load_byte(0, 1, -1)]), TWO, comes_to(11, 12), refused(23, 8)),
     ("the last byte from an index on, the length read anew", bytes_where([load_byte(8, 1, 4), fields(0x15, 8, 0, 3, 0), added(1, 7), added(1, 8), load_byte(0, 1, -1)]), TWO, refused(24, 10), refused(23, 8)),
     # where one of a pair is narrowed the other is
     ("a byte at an index, its length not 0", bytes_where([fields(0x15, 8, 0, 2, 0), added(1, 7), load_byte(0, 1, 0)]), TWO, comes_to(9, 10), refused(23, 7)),
@@ -1146,6 +1155,15 @@ PAIRS = [
     ("a byte at an index, a copy of its length not 0", bytes_where([fields(0x15, 9, 0, 2, 0), added(1, 7), load_byte(0, 1, 0)], [copied(9, 8), *WHOLE]), TWO, comes_to(9, 11), refused(23, 8)),
     ("a byte at an index, its length not 0 in 32 bits", bytes_where([fields(0x16, 8, 0, 2, 0), added(1, 7), load_byte(0, 1, 0)]), TWO, comes_to(9, 10), refused(23, 7)),
     ("a byte at an index, its length read anew not 0", bytes_where([load_byte(8, 1, 4), fields(0x15, 8, 0, 2, 0), added(1, 7), load_byte(0, 1, 0)]), TWO, refused(24, 9), refused(23, 8)),
+    # where a jump is taken, and where ways meet
+    ("bytes from an index on, where a jump is taken", bytes_where([fields(0x25, 8, 0, 1, 3), EXIT, *ALIKE]), FIVE, comes_to(1, 12), refused(23, 8)),
+    ("bytes from an index on, where ways meet", bytes_where([ROUND_IF_EMPTY, put(9, 0), *ALIKE]), TWO, comes_to(1, 13), refused(23, 8)),
+    ("bytes from an index on, one further, where ways meet", bytes_where([ROUND_IF_EMPTY, put(9, 0), added(1, 7), raised(1, 1), *ALIKE[1:]]), TWO, refused(28, 12), refused(23, 8)),
+    ("bytes from an index on, the length read anew on one way", bytes_where([ROUND_IF_EMPTY, load_byte(8, 1, 4), *ALIKE]), TWO, refused(28, 11), refused(23, 8)),
+    ("bytes from an index on, tested on one way alone", [*BYTES, ROUND_IF_EMPTY, fields(0x2D, 6, 2, 4, 0), *ALIKE, EXIT], TWO, refused(28, 10), refused(28, 10)),
+    ("bytes from an index on, by either of two tests", either_test(fields(0x2D, 6, 2, 8, 0), fields(0x25, 6, 0, 4, 100), ALIKE), TWO, comes_to(1, 14), refused(28, 15)),
+    ("bytes from an index on, one further, by the wider of two tests", either_test(fields(0x25, 6, 0, 9, 100), fields(0x2D, 6, 2, 5, 0), [added(1, 7), raised(1, 1), *ALIKE[1:]]), TWO, refused(28, 16), refused(28, 16)),
+    ("bytes from an index on, one further, by two narrow tests", either_test(fields(0x25, 6, 0, 9, 100), fields(0x25, 6, 0, 5, 200), [added(1, 7), raised(1, 1), *ALIKE[1:]]), TWO, comes_to(1, 15), refused(28, 16)),
     ("a byte at an index, another number not 0", bytes_where([fields(0x15, 2, 0, 2, 0), added(1, 7), load_byte(0, 1, 0)]), TWO, refused(24, 8), refused(23, 7)),
 ]
 

@@ -1,13 +1,16 @@
 use Rattle.std.proofs.Common.{rules, ◌≡◌, ◌+◌, ◌<◌, ◌≤◌, length, Some, None, refl, ap, sym, ◌∙◌, subst, arith}
 use Rattle.std.specs.Prelude.{slice_get}
+use Rattle.std.proofs.lemmas.Option.{slice_get_read}
 use Rattle.bpf_verifier.specs.Candidates.{program_in}
-use Rattle.bpf_copies.specs.Led.{leads_before}
 use Rattle.bpf_verifier.specs.Table.{table, broken_at}
 use Rattle.bpf_verifier.specs.Rows.{StartsZero, IsKnown, AreRowKinds, IsPass}
 use Rattle.bpf_verifier.specs.Waiting.{waiting}
 use Rattle.bpf_verifier.specs.Known.{AreSums}
+use Rattle.bpf_verifier.specs.PairSteps.{pairs_next}
+use Rattle.bpf_verifier.specs.Meetings.{Meets}
+use Rattle.bpf_verifier.specs.Lowered.{AreSlots}
 use Rattle.bpf_verifier.proofs.Tables.{pass_first, none_kinds}
-use Rattle.bpf_verifier.proofs.Noted.{pairs_on, known_kinds, one_more}
+use Rattle.bpf_verifier.proofs.Noted.{known_kinds, one_more}
 use Rattle.bpf_verifier.proofs.Visits.{bounded_here, all_visited}
 use Rattle.bpf_verifier.proofs.Lowering.{slots_and, slot_here}
 use Rattle.bpf_verifier.proofs.verifying.check_rows.Goals as goal
@@ -30,6 +33,7 @@ loop-at-init g c =
       };
       sums = subst (λ n. AreSums p n 0 c.in-Ok-new.sums) (omega (arith, c.len-slots.ensures, code.ok.0)) (c.in-Ok-new.ensures p refl);
       pairs = c.no_pairs-pairs.ensures;
+      meets = subst (λ n. Meets p (table p) n 0 c.in-Ok-none_yet.meetings) (omega (arith, c.len-slots.ensures, code.ok.0)) (c.in-Ok-none_yet.ensures p (table p));
       here = subst (λ l. IsKnown p.profile l c.entry-first.result) (sym low) c.entry-first.ensures.known;
       taken = subst (λ l. StartsZero p.profile l c.entry-first.result) (sym low) c.entry-first.ensures.known.zeros;
       lows = record { whole = omega (arith, c.in-Ok-vec.lows.ok.0, c.in-Ok-vec.ensures.len, c.len-slots.ensures, code.ok.0); slots = λ k low lt e. absurd (omega arith) };
@@ -54,6 +58,13 @@ advance-requires g c =
       known = λ _. bounded_here p (waiting c.loop-at.rows) c.loop-at.at within c.loop-at.here c.bounds_here-known.result c.loop-at.invariant.pass c.bounds_here-known.ensures;
     }
 
+pub meet-requires : goal.meet-requires
+meet-requires g c =
+    let code = c.args.program.now.image.code in
+    let few = c.args.program.now.image.few_slots in
+    let long = c.loop-at.invariant.meets.long in
+    record { few = omega (arith, long, few); within = omega (arith, c.loop-at-test.true, c.len-slots.ensures, code.ok.0, long) }
+
 pub loop-at-preserved : goal.loop-at-preserved
 loop-at-preserved g c = record {
   pass = c.in_ok-visit.ensures.pass;
@@ -61,9 +72,17 @@ loop-at-preserved g c = record {
   sums = c.in-Ok-advance.ensures.on;
   pairs =
       let p = program_in c.args.program.now in
-      let next = c.loop-at.at + 1 in
-      let led = c.in-Ok-advance.ensures.on.led next (omega (arith, c.loop-at-test.true, c.len-slots.ensures, c.args.program.now.image.code.ok.0)) in
-      pairs_on p (table p) c.loop-at.at (leads_before p.code next next) c.loop-at.sums.held c.loop-at.pairs _ _ refl c.loop-at.invariant.sums.held c.loop-at.invariant.pairs c.in_ok-visit.ensures.pairs (c.pairs_here-pairs.ensures (leads_before p.code next next) (ap (λ xs. slice_get xs next) c.deref.ensures.value ∙ led));
+      let code = c.args.program.now.image.code in
+      let at = c.loop-at.at in
+      let insn = slice_get_read code.items code.len at c.index-insn.result.now code.ok.0 (omega (arith, c.loop-at-test.true, c.len-slots.ensures, code.ok.0)) c.index-insn.ensures in
+      c.in-Ok-meet.ensures.here p (table p) insn c.loop-at.invariant.pairs
+      (c.in_ok-visit.ensures.pairs ∙ ap (λ s. pairs_next p (slice_get p.code at) s (slice_get (table p) at) c.loop-at.pairs) c.loop-at.invariant.sums.held)
+      (length p.code + 1) c.loop-at.invariant.meets;
+  meets =
+      let p = program_in c.args.program.now in
+      let code = c.args.program.now.image.code in
+      let insn = slice_get_read code.items code.len c.loop-at.at c.index-insn.result.now code.ok.0 (omega (arith, c.loop-at-test.true, c.len-slots.ensures, code.ok.0)) c.index-insn.ensures in
+      c.in-Ok-meet.ensures.follows p (table p) insn c.loop-at.invariant.pairs (length p.code + 1) c.loop-at.invariant.meets;
   here = c.in_ok-visit.ensures.here;
   taken = c.in_ok-visit.ensures.taken;
   lows =
@@ -77,3 +96,10 @@ loop-at-preserved g c = record {
 pub returns-clause-ok : goal.returns-clause-ok
 returns-clause-ok g c =
     all_visited (program_in c.args.program.now) c.loop-at.at c.requires.formed (omega (arith, c.len-slots.ensures, c.args.program.now.image.code.ok.0, c.loop-at-test.false)) c.loop-at.invariant.unbroken
+
+pub returns-clause-lowered : goal.returns-clause-lowered
+returns-clause-lowered g c =
+    let p = program_in c.args.program.now in
+    let code = c.args.program.now.image.code in
+    let end : c.loop-at.at ≡ length p.code = omega (arith, c.loop-at-test.false, c.loop-at.auto.at-end, c.len-slots.ensures, code.ok.0) in
+    subst (AreSlots p c.loop-at.lows.items) end c.loop-at.invariant.lows

@@ -4,6 +4,7 @@ use Rattle.bpf_verifier.specs.Candidates.{program_in}
 use Rattle.bpf_verifier.specs.Rows.{StartsZero, HasKinds, IsPass}
 use Rattle.bpf_verifier.specs.Table.{table, broken_at}
 use Rattle.bpf_verifier.specs.PairSteps.{pairs_at}
+use Rattle.bpf_verifier.specs.Meetings.{Meets}
 use Rattle.bpf_verifier.specs.Waiting.{waiting, IsPool}
 use Rattle.bpf_verifier.specs.Lowered.{AreSlots}
 use Rattle.bpf_verifier.proofs.verifying.check_rows.Given as goal
@@ -14,6 +15,7 @@ invariant-loop-at g l = record {
   pool : IsPool l.program.image.profile l.rows;
   sums : AreSums (program_in l.program) (length l.program.image.code.items + 1) l.at l.sums;
   pairs : l.pairs ≡ pairs_at (program_in l.program) (table (program_in l.program)) l.at;
+  meets : Meets (program_in l.program) (table (program_in l.program)) (length l.program.image.code.items + 1) l.at l.meetings;
   here : HasKinds l.program.image.profile l.rows.low l.here;
   taken : StartsZero l.program.image.profile l.rows.low l.taken;
   lows : AreSlots (program_in l.program) l.lows.items l.at;
