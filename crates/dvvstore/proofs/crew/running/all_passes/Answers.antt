@@ -13,5 +13,5 @@ loop-worker-preserved g c = record {
   asides = copied_one (λ p. p.aside) _ _ _ _ _ c.loop-worker.invariant.asides c.in_ok-push-2.ensures.items c.into_pass.ensures.pass;
   read = All-same (λ (p : View). All IsRead p.told) _ _ c.in_ok-push-2.ensures.items (All-push (λ (p : View). All IsRead p.told) _ _ c.loop-worker.invariant.read c.into_pass.ensures.read);
   many = counted_one (λ p. p.pass) _ _ _ _ c.push.new.self.ok.0 (copied_one (λ p. p.pass) _ _ _ _ _ c.loop-worker.invariant.all c.in_ok-push.ensures.items refl);
-  others = counted_one (λ p. p.aside) _ _ _ _ c.push-2.new.self.ok.0 (copied_one (λ p. p.aside) _ _ _ _ _ c.loop-worker.invariant.asides c.in_ok-push-2.ensures.items c.into_pass.ensures.pass);
+  others = counted_one (λ p. p.aside) _ _ _ _ c.push-in-loop-worker.new.self.ok.0 (copied_one (λ p. p.aside) _ _ _ _ _ c.loop-worker.invariant.asides c.in_ok-push-2.ensures.items c.into_pass.ensures.pass);
 }
