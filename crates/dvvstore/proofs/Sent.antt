@@ -1,7 +1,7 @@
 -- Threads may share what workers share: a watch under a lock may be handed from one to another.
 use denote.RattleType.{RattleType}
-use denote.Param.Send.{IsSend, IsSync, sendable, shr_send}
-use denote.Param.SendFields.{declared_send}
+use denote.Param.Send.{IsSend, IsSync, sendable, shr_send, shr_sync}
+use denote.Param.SendFields.{declared_send, declared_sync}
 use Rattle.std.proofs.Crossing.{crosses}
 use Rattle.std.specs.contracts.sync.Mutex as Mutex
 use Rattle.audit_cluster.specs.contracts.watch.Watch as Watch
@@ -50,7 +50,32 @@ filing_sync : IsSync (Mutex.the_row Filing.the_row)
 filing_sync = search (filing.the_send, sendable, crosses) depth 40
 
 pub shared_sync : (l : _) (B L : RattleType) (g : room.Ghosts B.Denot) (h : spot.Ghosts B.Denot) → IsSend B → IsSync L → IsSync (Shared.the_row l B L g h)
-shared_sync l B L g h s y = search (lock_sync, requests_sync, filing_sync, reporter.the_field_sync, writes.the_field_sync, y, sendable, crosses) depth 60 fits 20000
+shared_sync l B L g h s y =
+    declared_sync (Shared.the_type l B L g h) (
+      shr_sync _ _ _ y,
+      (
+        filing_sync,
+        (
+          lock_sync B g h s,
+          (
+            requests_sync,
+            (
+              search (sendable, crosses) depth 20,
+              (
+                reporter.the_sync,
+                (
+                  search (sendable, crosses) depth 20,
+                  (
+                    search (sendable, crosses) depth 20,
+                    (search (sendable, crosses) depth 20, (search (sendable, crosses) depth 20, (search (sendable, crosses) depth 20, (writes.the_sync, tt)))),
+                  ),
+                ),
+              ),
+            ),
+          ),
+        ),
+      ),
+    )
 
 -- a thread may be handed who follows
 pub lookout_send : (B : RattleType) (g : room.Ghosts B.Denot) (h : spot.Ghosts B.Denot) → IsSend B → IsSend (Lookout.the_row B g h)

@@ -1,5 +1,5 @@
 -- Things that are made one after the other, each with something that is taken from the end of a list.
-use Rattle.std.proofs.Common.{◌≡◌, ◌∙◌, ◌+◌, ◌++◌, ◌∷◌, [], List, length, map, reverse, sym, ap, refl, subst, arith}
+use Rattle.std.proofs.Common.{◌≡◌, ◌∙◌, ◌+◌, ◌++◌, ◌∷◌, [], ℕ, List, length, map, reverse, sym, ap, refl, subst, arith}
 use Rattle.std.specs.List.{All}
 use Rattle.std.proofs.lemmas.List.Elements.{All-push}
 use Rattle.std.proofs.lemmas.List.{map-append, reverse-append, reverse-reverse, length-reverse, length-append, length-map, nil_from_length, append_assoc}
@@ -37,3 +37,7 @@ module _ {S A : Type 0} (of : S → A) where
   pub copied_one : (xs more : List A) (made : List S) (one : S) (x : A) → xs ≡ map of made → more ≡ xs ++ x ∷ [] → x ≡ of one → more ≡ map of (made ++ one ∷ [])
   copied_one xs more made one x is grown its =
       grown ∙ (ap (λ l. l ++ x ∷ []) is ∙ (ap (λ y. map of made ++ y ∷ []) its ∙ sym (map-append of made (one ∷ []))))
+
+  -- so there are as many
+  pub counted_one : (len : ℕ) (more : List A) (made : List S) (one : S) → len ≡ length more → more ≡ map of (made ++ one ∷ []) → len ≡ length (made ++ one ∷ [])
+  counted_one len more made one is same = is ∙ (ap length same ∙ length-map (made ++ one ∷ []) of)

@@ -274,6 +274,8 @@ fn keep_logged<
     requires list { book_of list ≡ J.book }
     requires some { 0 < vec_len keeping.tables }
     requires few { vec_len keeping.tables ≤ 16 }
+    requires number { opened.number ≤ 16777215 }
+    requires copies { (0 < opened.held.settings.copies) × (opened.held.settings.copies ≤ 3) }
     ensures told { IfOk result (HasKept (O.contents out.old) (O.contents out.new)) }
     ensures refused { IfErr result (λ why. why ≡ Unserved.Refused → HasRefused (O.contents out.old) (O.contents out.new)) }
     ensures untold { IfErr result (λ why. why ≡ Unserved.NoMemory → O.contents out.new ≡ O.contents out.old) }
@@ -322,6 +324,8 @@ fn keep_opened<
 ) -> Result<Ended<Said>, Unserved>
     requires some { 0 < vec_len keeping.tables }
     requires few { vec_len keeping.tables ≤ 16 }
+    requires number { opened.number ≤ 16777215 }
+    requires copies { (0 < opened.held.settings.copies) × (opened.held.settings.copies ≤ 3) }
     ensures told { IfOk result (HasKept (O.contents out.old) (O.contents out.new)) }
     ensures refused { IfErr result (λ why. why ≡ Unserved.Refused → HasRefused (O.contents out.old) (O.contents out.new)) }
     ensures untold { IfErr result (λ why. why ≡ Unserved.NoMemory → O.contents out.new ≡ O.contents out.old) }

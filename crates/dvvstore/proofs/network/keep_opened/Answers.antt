@@ -18,11 +18,11 @@ pub returns-in-Ok-Lost-clause-told : goal.returns-in-Ok-Lost-clause-told
 returns-in-Ok-Lost-clause-told g c =
     kept_where_told (g.O.Write.contents c.args.out.now) (g.O.Write.contents c.live.new.out) (g.O.Write.contents c.lose.new.out) c.lose.result c.in-Ok-Lost.ensures.told c.lose.ensures.told
 
-pub returns-in-Err-live-clause-refused : goal.returns-in-Err-live-clause-refused
-returns-in-Err-live-clause-refused g c = refused_so c.in-Err-live.why _ (g.O.Write.contents c.live.new.out) _ _ c.in-Err-live.ensures.told c.unserved.ensures.refused
+pub returns-in-Err-clause-refused : goal.returns-in-Err-clause-refused
+returns-in-Err-clause-refused g c = refused_so c.in-Err.why _ (g.O.Write.contents c.live.new.out) _ _ c.in-Err.ensures.told c.unserved.ensures.refused
 
-pub returns-in-Err-live-clause-untold : goal.returns-in-Err-live-clause-untold
-returns-in-Err-live-clause-untold g c = unserved_so c.in-Err-live.why _ (g.O.Write.contents c.live.new.out) _ _ c.in-Err-live.ensures.told c.unserved.ensures.memory
+pub returns-in-Err-clause-untold : goal.returns-in-Err-clause-untold
+returns-in-Err-clause-untold g c = unserved_so c.in-Err.why _ (g.O.Write.contents c.live.new.out) _ _ c.in-Err.ensures.told c.unserved.ensures.memory
 
 pub returns-in-Ok-Kept-clause-kept : goal.returns-in-Ok-Kept-clause-kept
 returns-in-Ok-Kept-clause-kept g c = λ minute before opens.

@@ -3,7 +3,7 @@ use denote.Exit.{no}
 use denote.Param.Send.{IsSend, arg_send, param_send, sendable, shr_send}
 use denote.Param.{param}
 use denote.Struct.Tuple.{TupleAt}
-use mir.Syntax.{Sym, erased}
+use mir.Syntax.{Sym}
 use mathlib.Core.List.{[], ◌∷◌}
 use Rattle.std.proofs.alloc.Global.TheSendSync as heap
 use Rattle.server_accept.proofs.Sent.{lobby_sync}
@@ -27,5 +27,4 @@ pub join_three-spares-requires-send-G : goal.join_three-spares-requires-send-G
 join_three-spares-requires-send-G g c κs within =
     let cluster = cluster_sync (param 0 g.row.B) g.B.Room c.type_bounds.send-B c.type_bounds.sync-B in
     let shared = shared_sync _ (param 0 g.row.B) (param 4 g.row.L) g.B.Room g.B.Spot c.type_bounds.send-B c.type_bounds.sync-L in
-    let captured = captures_send [] _ _ _ _ _ (shr_send erased _ _ c.type_bounds.sync-R) (shr_send erased [] _ heap.the_sync) (shr_send erased _ _ cluster) (shr_send erased _ _ lobby_sync) (shr_send erased _ _ shared) in
-    record { owned = captured.owned; leaving = (param_send 2 _ captured).leaving }
+    param_send 2 _ (arg_send _ no _ (captures_send _ _ _ _ _ _ (shr_send _ _ _ c.type_bounds.sync-R) (shr_send _ _ _ heap.the_sync) (shr_send _ _ _ cluster) (shr_send _ _ _ lobby_sync) (shr_send _ _ _ shared)))

@@ -11,4 +11,4 @@ returns-in_default-take_worker g c =
     record { visited = not_visited g.H.Hooks.finds g.H.Hooks.names g.H.HookChanges.takes (begun c.args.floor.now.cluster.now c.args.seat.pass c.args.seat.hooking.hooks c.args.seat.hooking.table.listed c.args.seat.placement) _ c.leave-in_default-take_worker.ensures.pass }
 
 pub returns : goal.returns
-returns g c = record { visited = c.visit-pass.ensures.visited c.in-Some-take_worker.ensures.none }
+returns g c = record { visited = c.visit-passes.ensures.visited c.in-Some-take_worker.ensures.none }

@@ -1,11 +1,11 @@
 use denote.RattleType.{RattleType}
-use denote.Param.Send.{IsSync, sendable, shr_sync, arg_send, param_send}
+use denote.Param.Send.{IsSync, sendable, shr_sync, arg_send, arg_sync, param_send, param_sync}
 use denote.Exit.{no}
 use denote.Param.Object.{Vt, ghosts_of}
 use denote.Param.Callables.{held_fn}
 use denote.Param.{param}
 use denote.Struct.Tuple.{TupleAt}
-use mir.Syntax.{Sym, erased}
+use mir.Syntax.{Sym}
 use mathlib.Core.List.{[], ◌∷◌}
 use Rattle.std.proofs.Common.{arith, slice_index_or, subst, sym}
 use Rattle.std.proofs.alloc.Global.TheSendSync as heap
@@ -26,12 +26,11 @@ pub map_vec-back-requires-sync-F : goal.map_vec-back-requires-sync-F
 map_vec-back-requires-sync-F g c κs within =
     let cluster = cluster_sync (param 0 g.row.B) g.B.Room c.type_bounds.send-B c.type_bounds.sync-B in
     let shared = shared_sync _ (param 0 g.row.B) (param 3 g.row.L) g.B.Room g.B.Spot c.type_bounds.send-B c.type_bounds.sync-L in
-    record { shared = (captures_sync [] _ _ _ _ _ (shr_sync erased _ _ c.type_bounds.sync-R) (shr_sync erased [] _ heap.the_sync) (shr_sync erased _ _ cluster) (shr_sync erased _ _ lobby_sync) (shr_sync erased _ _ shared)).shared }
+    param_sync 4 _ (arg_sync _ no _ (captures_sync _ _ _ _ _ _ (shr_sync _ _ _ c.type_bounds.sync-R) (shr_sync _ _ _ heap.the_sync) (shr_sync _ _ _ cluster) (shr_sync _ _ _ lobby_sync) (shr_sync _ _ _ shared)))
 
 pub map_vec-back-requires-send-J : goal.map_vec-back-requires-send-J
 map_vec-back-requires-send-J g c κs within =
-    let slots = work_all.dyn-1.slots g.row.B g.row.H g.row.R g.row.L in
-    param_send 1 _ (arg_send _ no _ (seat_send (Vt slots g.dyn-1.0) (ghosts_of slots g.dyn-1.0 g.dyn-1.1) (held_fn g.dyn-1.0) (search sendable depth 10) g.dyn-1.2
+    param_send 1 _ (arg_send _ no _ (seat_send (Vt (work_all.dyn-1.slots g.row.B g.row.H g.row.R g.row.L g.row.L-Receipt g.row.L-Kept) g.dyn-1.0) (ghosts_of (work_all.dyn-1.slots g.row.B g.row.H g.row.R g.row.L g.row.L-Receipt g.row.L-Kept) g.dyn-1.0 g.dyn-1.1) (held_fn g.dyn-1.0) (search sendable depth 10) g.dyn-1.2
     (param 0 g.row.B) (param 1 g.row.H) g.B.Room c.type_bounds.send-B c.type_bounds.send-H))
 
 pub returns-clause-visited : goal.returns-clause-visited
