@@ -1,5 +1,5 @@
 -- What a pass is told of reads, call by call.
-use Rattle.std.proofs.Common.{◌≡◌, ◌∙◌, ◌+◌, ◌<◌, ◌≤◌, ℕ, Bool, true, false, List, [], ◌∷◌, ◌++◌, Result, Ok, Err, IfOk, ap, append_assoc, arith, length, refl, subst, sym}
+use Rattle.std.proofs.Common.{◌≡◌, ◌∙◌, ◌+◌, ℕ, Bool, true, false, List, [], ◌∷◌, ◌++◌, Result, Ok, Err, IfOk, ap, append_assoc, arith, length, refl, subst, sym}
 use Rattle.std.specs.Prelude.{MatchBool}
 use Rattle.std.specs.List.{All, AllByRecursion}
 use Rattle.std.specs.Global.{Vec}
@@ -15,7 +15,6 @@ use Rattle.peers.specs.declared.fault.PeerFault.{PeerFault}
 use Rattle.peers.specs.declared.fault.PeerFault.TheVariants.{Lost, Refused}
 use Rattle.peers.specs.declared.peers.Answer.{Answer}
 use Rattle.record_codec.specs.declared.record.Record.{Record}
-use Rattle.cluster_stamps.specs.declared.request.Request.{Request}
 use Rattle.cluster_stamps.specs.declared.request.Request.TheVariants as request
 use Rattle.cluster_stamps.specs.declared.view.Size.{Size}
 use Rattle.cluster_stamps.specs.declared.view.Told.{Told}

@@ -1,6 +1,5 @@
 -- What stands in a folder at the end, by what each step of a store said.
-use Rattle.std.proofs.Common.{◌≡◌, ◌*◌, ◌<◌, ◌≤◌, ◌∙◌, ℕ, List, Option, Some, Result, Ok, Err, IfOk, sym, subst, refl}
-use Rattle.audit_cluster.specs.declared.ending.Verdict.{Verdict}
+use Rattle.std.proofs.Common.{◌≡◌, ◌*◌, ◌<◌, ◌≤◌, ℕ, List, Option, Some, Result, Ok, Err, IfOk, subst}
 use Rattle.bpf_helpers.specs.declared.sig.Entry.{Entry}
 use Rattle.cluster_stamps.specs.declared.view.Size.{Size}
 use Rattle.commands.specs.declared.server.Ended.{Ended}
@@ -13,7 +12,7 @@ use Rattle.kept_folder.specs.Steps.{Step}
 use Rattle.kept_folder.specs.declared.opening.Opened.{Opened}
 use Rattle.dvvstore.specs.Crews.{by_digest}
 use Rattle.dvvstore.specs.Keeping.{IsLeftFolded, IsUnkept, Keeps}
-use Rattle.dvvstore.specs.Over.{IsKeptOver, IsOpened, KeptOver, ended_says}
+use Rattle.dvvstore.specs.Over.{IsOpened, KeptOver, ended_says}
 use Rattle.dvvstore.specs.Visits.{BeginOver}
 use Rattle.dvvstore.specs.declared.crew.running.Served.{Served}
 use Rattle.dvvstore.specs.declared.network.Said.{Said}

@@ -17,7 +17,6 @@ use Rattle.ring.specs.Places.{PlacementView}
 use Rattle.cluster_stamps.specs.declared.view.Size.{Size}
 use Rattle.server_one_thread.specs.Passes.{Passing}
 use Rattle.server_store.specs.View.{StoreView}
-use Rattle.cluster_stamps.specs.declared.view.View.{View}
 use Rattle.audit_cluster.specs.Following.{AreNumbered}
 use Rattle.kept_file.specs.declared.file.KeptFile.{KeptFile}
 use Rattle.kept_fold.specs.Folds.{AreFolded}

@@ -1,5 +1,5 @@
 -- What snapshots of several vnodes come to, each by a pass of its own.
-use Rattle.std.proofs.Common.{◌≡◌, ◌∙◌, ◌+◌, ◌-◌, ◌^◌, ◌<◌, ◌++◌, ◌∷◌, ℕ, zero, suc, List, [], Result, Ok, Err, IfOk, ap, arith, drop, length, map, min, refl, subst, sym, take}
+use Rattle.std.proofs.Common.{◌≡◌, ◌∙◌, ◌+◌, ◌-◌, ◌^◌, ◌<◌, ◌++◌, ◌∷◌, ℕ, zero, suc, List, [], Result, Ok, IfOk, ap, arith, drop, length, map, min, refl, subst, sym, take}
 use Rattle.std.specs.Prelude.{get_or, slice_index_or, sum}
 use Rattle.std.proofs.lemmas.List.{append-nil, map-append}
 use Rattle.std.proofs.lemmas.List.Sums.{sum_by-append}

@@ -1,10 +1,9 @@
 -- What is left of a store, said of the same numbers and files.
-use Rattle.std.proofs.Common.{◌≡◌, ◌∙◌, ◌+◌, ◌<◌, ◌++◌, ℕ, zero, suc, List, Option, Result, Ok, Err, IfOk, [], ◌∷◌, arith, subst, sym}
+use Rattle.std.proofs.Common.{◌≡◌, ◌∙◌, ◌++◌, ℕ, List, Option, Result, Ok, Err, IfOk, [], ◌∷◌, arith, subst, sym}
 use Rattle.std.specs.List.{All}
 use Rattle.std.specs.Prelude.{IsErrAnd}
 use Rattle.std.proofs.lemmas.List.{get_or_append_left, length-append}
 use Rattle.kept_file.specs.declared.file.KeptFile.{KeptFile}
-use Rattle.journal.specs.Logs.{Log}
 use Rattle.cluster_stamps.specs.declared.view.View.{View}
 use Rattle.cluster_vnode.specs.Calls.{pass_view}
 use Rattle.kept_restore.specs.Beginnings.{BeginWithFiles, HaveLoaded}

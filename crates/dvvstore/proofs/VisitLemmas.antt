@@ -1,5 +1,5 @@
 -- On the visits of workers.
-use Rattle.std.proofs.Common.{◌≡◌, ◌∙◌, ◌+◌, ℕ, suc, ◌<◌, List, [], ◌∷◌, ◌++◌, Option, Some, None, Result, Ok, Err, IfOk, ap, refl, sym, subst, arith, append-nil, append_assoc, length, map}
+use Rattle.std.proofs.Common.{◌≡◌, ◌∙◌, ℕ, suc, ◌<◌, List, [], ◌∷◌, ◌++◌, Option, Some, None, Result, Ok, Err, IfOk, ap, refl, sym, subst, arith, append-nil, append_assoc, length, map}
 use Rattle.std.specs.Prelude.{slice_index_or}
 use Rattle.std.specs.List.{Contains}
 use Rattle.std.proofs.lemmas.List.Elements.{Contains-append_left, Contains-append_right}
@@ -22,7 +22,7 @@ use Rattle.journal.specs.Logs.{Log as JournalLog}
 use Rattle.audit_cluster.specs.Moments.{AreMadeBy, HappenBehind}
 use Rattle.server_accept.specs.Waiting.{HasHadNone}
 use Rattle.ring.specs.Places.{PlacementView, copies_in}
-use Rattle.server_sockets.specs.Work.{Stays, Works, seats_of, shows}
+use Rattle.server_sockets.specs.Work.{Stays, Works, seats_of}
 use Rattle.server_sockets.specs.declared.worker.Worker.{Worker}
 use Rattle.cluster_stamps.specs.declared.view.Size.{Size}
 use Rattle.cluster_stamps.specs.declared.view.Told.{Told}
@@ -31,11 +31,8 @@ use Rattle.server_store.specs.View.{StoreView, shown}
 use Rattle.peers.specs.Calls.{Call as PeerCall}
 use Rattle.server_one_thread.specs.Passes.{AreCallsOf, GivesUnnoted, PassCalls, Passing, all_calls, by_pass, told_by}
 use Rattle.cluster_vnode.specs.Gathers.{IsGathered}
-use Rattle.kept_file.specs.Files.{records_at}
 use Rattle.kept_file.specs.declared.file.KeptFile.{KeptFile}
-use Rattle.kept_restore.specs.Beginnings.{BeginWithFiles, BeginsWith}
-use Rattle.kept_restore.specs.Loads.{HasLoaded}
-use Rattle.record_codec.specs.declared.record.Record.{Record}
+use Rattle.kept_restore.specs.Beginnings.{BeginWithFiles}
 use Rattle.dvvstore.proofs.Among.{LoadsStand, all_begin, all_told}
 use Rattle.dvvstore.proofs.Fronts.{brought_among, none_made}
 use Rattle.server_receipts.specs.Receipts.{AreToldBy}
