@@ -6,13 +6,10 @@ ghost use Rattle.record_codec.specs.Records.{IsRecord, spelling};
 ghost use Rattle.commands.specs.Records.{fault_text, is_of, names_incarnation, record_of, records_of};
 ghost use Rattle.std.specs.List.{list_any};
 
-use dvv::Dot;
+use dvv::{Dot, VNODES_PER_INCARNATION};
 use record_codec::{Record, Unspelled, WireFault, record_bytes};
 use std::alloc::Global;
 use world::{Copied, Copies};
-
-/// How many vnodes' identifiers an incarnation has.
-const IDENTIFIERS: u32 = 65_536;
 
 /// The records of copies, one after another.
 pub fn spelled(alloc: Global, copies: &Copies) -> Result<Vec<u8>, Unspelled>
@@ -65,7 +62,7 @@ fn counts(entries: &[Dot], incarnation: u16) -> bool
 fn is_of(vnode: u32, incarnation: u16) -> bool
     ensures { result ≡ is_of vnode incarnation }
 {
-    vnode / IDENTIFIERS == u32::from(incarnation)
+    vnode / VNODES_PER_INCARNATION == u32::from(incarnation)
 }
 
 /// The number of a fault.

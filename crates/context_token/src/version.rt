@@ -5,7 +5,7 @@ ghost use Rattle.std.specs.Int.{w64, to_be_bytes, from_be_bytes};
 ghost use Rattle.context_token.specs.Layouts.{layout};
 ghost use Rattle.context_token.specs.Token.{rises, tells_all, written_by};
 
-use dvv::{Dot, VNODES_PER_NUMBER};
+use dvv::{Dot, VNODES_PER_INCARNATION, VNODES_PER_NUMBER};
 
 // The first bytes of tokens.
 pub(crate) const FIRST_MARK: u8 = 1;
@@ -16,9 +16,6 @@ pub(crate) const THIRD_MARK: u8 = 3;
 
 // The bytes of the longest entry.
 pub(crate) const MAX_ENTRY_BYTES: usize = 12;
-
-// In version 2 a vnode's index is below this, and its identifier is this many times its incarnation, and its index.
-const INDEXES: u32 = 1 << 16;
 
 // In version 3 a start's number is below this.
 const NUMBERS: u32 = 1 << 24;
@@ -78,7 +75,8 @@ impl Version {
     {
         match self {
             Version::First => vnode,
-            Version::Second => vnode % INDEXES * INDEXES + vnode / INDEXES,
+            Version::Second => vnode % VNODES_PER_INCARNATION * VNODES_PER_INCARNATION
+                + vnode / VNODES_PER_INCARNATION,
             Version::Third => vnode % VNODES_PER_NUMBER * NUMBERS + vnode / VNODES_PER_NUMBER,
         }
     }
@@ -89,7 +87,7 @@ impl Version {
     {
         match self {
             Version::First => true,
-            Version::Second => vnode % INDEXES <= MAX_INDEX,
+            Version::Second => vnode % VNODES_PER_INCARNATION <= MAX_INDEX,
             Version::Third => vnode % VNODES_PER_NUMBER <= MAX_INDEX,
         }
     }

@@ -21,6 +21,10 @@ pub const MAX_ENTRIES: usize = 1024;
 /// upper 24, and the index the lower 8.
 pub const VNODES_PER_NUMBER: u32 = 256;
 
+/// In a script's world a vnode's identifier is its incarnation times this, and its index, which is below this: each has 16 bits. So it is in
+/// contexts of the second version.
+pub const VNODES_PER_INCARNATION: u32 = 65_536;
+
 /// One event: the n-th of a vnode, from 1. Dots are in order of vnode, then of n. The default has number 0, and is no event.
 #[derive(Clone, Copy, Default, PartialEq, Eq, PartialOrd, Ord)]
 pub struct Dot {

@@ -6,7 +6,7 @@ ghost use Rattle.peers.specs.Calls.{PutAt, MergeAt, StateOf, SummaryAt, MergePar
 ghost use Rattle.peers.specs.Locals.{Does, KeysIn, MergesPartIn, fresh, counted};
 
 use crate::{Answer, PartAnswer, PeerFault, Peers, SummaryAnswer};
-use dvv::{Clock, Dot};
+use dvv::{Clock, Dot, VNODES_PER_INCARNATION};
 use key_state::{Content, Key, KeyState, Part};
 use ring::{MAX_COPIES, Placement};
 use std::alloc::{AllocError, Global};
@@ -173,7 +173,7 @@ fn fresh_vnodes(alloc: Global, n: u32, incarnation: u16) -> Result<Vec<Vnode>, A
     ensures { IfOk result (λ vnodes. vnodes.items ≡ fresh incarnation n) }
 {
     let mut vnodes = Vec::with_capacity(alloc, n as usize)?;
-    let first = u32::from(incarnation) * 65536;
+    let first = u32::from(incarnation) * VNODES_PER_INCARNATION;
     for index in 0..n {
         vnodes.push(Vnode::new(alloc, first + index))?;
     }

@@ -8,9 +8,9 @@ ghost use Rattle.world.specs.Running.{AreRunnableFrom, Begins, IsWorldFrom, max_
 ghost use Rattle.world.specs.Sources.{GoOnBy};
 
 use crate::event::{Event, Reply};
-use crate::limits::MAX_VNODES;
 use crate::turn::Turn;
 use bpf_helpers::Table;
+use dvv::VNODES_PER_INCARNATION;
 use hook_run::Room;
 use std::alloc::{AllocError, Global};
 use vnode::Vnode;
@@ -75,5 +75,5 @@ pub(crate) fn identifier(incarnation: u16, index: usize) -> u32
     requires { index < max_vnodes }
     ensures { result ≡ id_under incarnation index }
 {
-    incarnation as u32 * MAX_VNODES as u32 + index as u32
+    incarnation as u32 * VNODES_PER_INCARNATION + index as u32
 }
