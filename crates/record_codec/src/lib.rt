@@ -13,8 +13,6 @@ mod lists;
 mod read;
 mod record;
 mod sharing;
-#[cfg(test)]
-mod tests;
 mod write;
 
 pub use fault::WireFault;
