@@ -1,5 +1,5 @@
 -- One vnode more of a put's ways.
-use Rattle.std.proofs.Common.{◌≡◌, ℕ, ◌+◌, ◌<◌, List, [], ◌∷◌, ◌++◌, length, get_or, refl, ap, sym, subst, arith, Result, Ok, Err, count_by, is_ok, cond, Bool, true, false, MatchBool}
+use Rattle.std.proofs.Common.{◌≡◌, ℕ, ◌+◌, ◌<◌, List, [], ◌∷◌, ◌++◌, length, get_or, refl, ap, sym, subst, arith, Option, Some, None, Result, Ok, Err, count_by, is_ok, cond, Bool, true, false, MatchBool}
 use Rattle.std.specs.Prelude.{nat_le, if◌then◌else◌}
 use Rattle.std.proofs.lemmas.List.Sums.{sum_by-append}
 use Rattle.dvv.specs.declared.Dot.{Dot}
@@ -10,7 +10,8 @@ use Rattle.key_state.specs.declared.content.Key.{Key}
 use Rattle.peers.specs.declared.peers.Answer.{Answer}
 use Rattle.peers.specs.declared.fault.PeerFault.{PeerFault}
 use Rattle.peers.specs.Calls.{Call, MergeAt, StateOf, Made}
-use Rattle.quorum.specs.Puts.{Brought, PassedOver, Merged, gathers, merges, copies, is_ahead, TriesAgain, AfterRead, AfterStored, AfterPut, AfterFirst}
+use Rattle.quorum.specs.Faults.{fault_of}
+use Rattle.quorum.specs.Puts.{Brought, PassedOver, Merged, gathers, merges, copies, is_ahead, put_of, reads_behind, IsReadFor, TriesAgain, AfterRead, AfterStored, AfterPut, AfterFirst}
 use Rattle.peers.proofs.CallLemmas.{made_end, made_append}
 
 merges_end : (key : Key) (answer : Answer) (vnodes : List ℕ) (backs : List (Result Bool PeerFault)) (back : Result Bool PeerFault) → length backs < length vnodes
@@ -69,18 +70,36 @@ copies_end backs back = at_end back (count_by is_ok (backs ++ back ∷ [])) (cou
     at_end (Ok x) m n h = omega arith
     at_end (Err e) m n h = omega arith
 
--- a put whose copy is the only one
-pub alone : (coordinator : ℕ) (others : List ℕ) (key : Key) (w : ℕ) (dot : Dot) (result : Result Dot QuorumFault) → length others ≡ 0
-    → result ≡ (if nat_le w 1 then Ok dot else Err TooFew) → AfterStored coordinator others key w dot [] result
-alone coordinator [] key w dot result none is = (refl, is)
-alone coordinator (i ∷ others) key w dot result none is = absurd (omega arith)
+module _ (coordinator : ℕ) (others : List ℕ) (key : Key) (w : ℕ) (result : Result Dot QuorumFault) where
+  -- what follows a put, by what came of it and of the read behind it
+  abbrev Follows : Result (Dot × Option (Result Answer PeerFault)) PeerFault → List Call → Type 0
+  Follows back rest = AfterPut coordinator others key w (put_of back) (reads_behind coordinator key back ++ rest) result
 
--- a put that goes to others
-pub not_alone : (coordinator : ℕ) (others : List ℕ) (key : Key) (w : ℕ) (dot : Dot) (calls : List Call) (result : Result Dot QuorumFault) → 0 < length others
-    → ((own : Result Answer PeerFault) × (rest : List Call) × (calls ≡ StateOf coordinator key own ∷ rest) × AfterRead coordinator others key w dot own rest result)
-    → AfterStored coordinator others key w dot calls result
-not_alone coordinator [] key w dot calls result some h = absurd (omega arith)
-not_alone coordinator (i ∷ others) key w dot calls result some h = h
+  -- a put whose copy is the only one
+  pub alone : (back : Result (Dot × Option (Result Answer PeerFault)) PeerFault) (dot : Dot) → IsReadFor others back → back ≡ Ok (dot, None) → result ≡ (if nat_le w 1 then Ok dot else Err TooFew) → Follows back []
+  alone back dot read is told = subst (λ b. Follows b []) (sym is) (by_others others (subst (IsReadFor others) is read))
+    where
+      by_others : (all : List ℕ) → IsReadFor all (Ok (dot, None)) → AfterStored coordinator all key w dot [] result
+      by_others [] none = (refl, told)
+      by_others (i ∷ more) none = absurd none
+
+  -- a put that goes to others
+  pub not_alone : (back : Result (Dot × Option (Result Answer PeerFault)) PeerFault) (dot : Dot) (own : Result Answer PeerFault) (rest : List Call) → IsReadFor others back → back ≡ Ok (dot, Some own)
+      → AfterRead coordinator others key w dot own rest result → Follows back rest
+  not_alone back dot own rest read is after = subst (λ b. Follows b rest) (sym is) (by_others others (subst (IsReadFor others) is read) after)
+    where
+      by_others : (all : List ℕ) → IsReadFor all (Ok (dot, Some own)) → AfterRead coordinator all key w dot own rest result → AfterStored coordinator all key w dot (StateOf coordinator key own ∷ rest) result
+      by_others [] none after = absurd none
+      by_others (i ∷ more) some after = (own, rest, refl, after)
+
+  -- a put that failed
+  pub not_put : (back : Result (Dot × Option (Result Answer PeerFault)) PeerFault) (fault : PeerFault) → back ≡ Err fault → result ≡ Err (fault_of fault) → Follows back []
+  not_put back fault is told = subst (λ b. Follows b []) (sym is) (refl, told)
+
+-- no read is behind a put that was ahead
+pub ahead_unread : (coordinator : ℕ) (key : Key) (back : Result (Dot × Option (Result Answer PeerFault)) PeerFault) → is_ahead (put_of back) ≡ true → reads_behind coordinator key back ≡ []
+ahead_unread coordinator key (Ok (dot, own)) e = absurd cc
+ahead_unread coordinator key (Err fault) e = refl
 
 -- the calls that follow one, with it in front
 pub one_first : {S : Type 0} (happens : S → Call → S → Type 0) (start mid new : S) (call : Call) (calls : List Call) → happens start call mid → Made happens mid calls new → Made happens start (call ∷ calls) new
