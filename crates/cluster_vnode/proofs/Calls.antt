@@ -17,7 +17,7 @@ use Rattle.cluster_stamps.specs.declared.view.Told.{Told}
 use Rattle.cluster_stamps.specs.declared.view.History.{History}
 use Rattle.cluster_stamps.specs.declared.view.View.{View}
 use Rattle.cluster_stamps.specs.Rule.{together, drew, dropped, learned, without_pass, entries, entry_count, outcome_count, IsAboveAll, IsWithin, TellsOf}
-use Rattle.cluster_vnode.specs.Answers.{IsAnswered, entry_of_call, entries_made, entries_of, entries_told, AreAnswered, IsVnodes, log_of, lacks, lacks_memory}
+use Rattle.cluster_vnode.specs.Answers.{IsAnswered, entry_of_call, entries_made, entries_of, AreAnswered, IsVnodes, log_of, lacks, lacks_memory}
 use Rattle.cluster_vnode.specs.Calls.{pass_view, told_then}
 
 pub entries_of-push : (ts : List Told) (t : Told) → entries_of (ts ++ t ∷ []) ≡ entries_of ts ++ entry_of_call t
@@ -35,14 +35,6 @@ length_made s (news.HandOut first entries) = refl
 pub length_entries : (ts : List Told) → length (entries_of ts) ≡ entries ts
 length_entries [] = refl
 length_entries (t ∷ ts) = omega (arith, length-append (entry_of_call t) (entries_of ts), length_made t.stamp t.news, length_entries ts)
-
--- how many entries a vnode's journal has, as the view of its seat tells
-pub seat_counts : (log : Log) (v : View) → IsVnodes log v → entries_told v ≡ length log.entries
-seat_counts log v is = omega (arith, ap entries_told is.view, length_entries is.history.told, ap length is.journal_is)
-
--- one call makes one entry, or none
-pub more_entries : (old new : Log) (s : ℕ) (q : Request) (out : Result Reply PartFault) → new ≡ with_made old s q out → length new.entries ≡ length old.entries + outcome_count out
-more_entries old new s q out more = ap (λ (l : Log). length l.entries) more ∙ length-append old.entries (made s q out) ∙ ap (λ n. length old.entries + n) (length_made s (news.Call q out))
 
 pub answered-push : (front : List Entry) (ts : List Told) (t : Told) → AreAnswered front ts → IsAnswered (front ++ entries_of ts) t → AreAnswered front (ts ++ t ∷ [])
 answered-push front [] t a b = (subst (λ es. IsAnswered es t) (append-nil front) b, tt)
