@@ -10,6 +10,7 @@ use Rattle.cluster_stamps.specs.declared.request.Request.TheVariants as request
 use Rattle.cluster_stamps.specs.Rule.{call_of}
 use Rattle.cluster_stamps.specs.declared.view.Size.{Size}
 use Rattle.cluster_stamps.specs.declared.view.View.{View}
+use Rattle.cluster_vnode.specs.Answers.{IsSaid, log_of}
 use Rattle.cluster_vnode.specs.Calls.{IsNews, IsFault, outcome_ok}
 use Rattle.cluster_vnode.specs.declared.fault.CallFault.{CallFault}
 use Rattle.cluster_vnode.specs.declared.fault.CallFault.TheVariants as fault
@@ -36,7 +37,7 @@ read_back old new vnode key (Ok (reply.Summary summary, receipt)) h = h.1.1.3.1
 read_back old new vnode key (Ok (reply.Built changed whole, receipt)) h = h.1.1.3.1
 read_back old new vnode key (Ok (reply.Done, receipt)) h = h.1.1.3.1
 read_back old new vnode key (Err fault.PassSpent) h = λ e. cc
-read_back old new vnode key (Err fault.Missing) h = search rules
+read_back old new vnode key (Err fault.Missing) h = λ e. subst (λ n. IsSaid (log_of h.0.vnode h.1.1.0) h.0.stamp n) h.3 h.1.1.3
 read_back old new vnode key (Err (fault.Refused why)) h = λ e. cc
 
 -- the answer that was made of it is so
@@ -65,14 +66,22 @@ placed_at (Err fault.Missing) own place is h = absurd is
 placed_at (Err (fault.Refused why)) own place is h = subst (λ (o : Result Answer PeerFault). IfOk o (λ answer. answer.at ≡ place)) (sym is) tt
 
 -- a put that was answered, and the read behind it
-pub both : (size : Size) (old new : View) (i : ℕ) (key : Key) (seen : List Dot) (content : Content) (dot : Dot) (receipt : Receipt) (read : Result (Reply × Receipt) CallFault) (own : Result Answer PeerFault) → i < size.vnodes
-    → IsReadBehind old new (size.first + i) (request.Put key seen content) key (reply.Dot dot, receipt) read → IsReadAs read own → IsPutAndRead size old new i key seen content (Ok (dot, own))
-both size old new i key seen content dot receipt read own there (middle, put, came, behind) is = (
+pub both : (size : Size) (old new : View) (i : ℕ) (key : Key) (seen : List Dot) (content : Content) (dot : Dot) (made : Reply × Receipt) (read : Result (Reply × Receipt) CallFault) (own : Result Answer PeerFault) (vnode : ℕ) (asked : Request)
+    → i < size.vnodes → vnode ≡ size.first + i → asked ≡ request.Put key seen content → made.0 ≡ reply.Dot dot → IsReadBehind old new vnode asked key made read → IsReadAs read own → IsPutAndRead size old new i key seen content (Ok (dot, own))
+both size old new i key seen content dot made read own vnode asked there there_is put_is dot_is (middle, put, came, behind) is = (
   middle,
-  receipt.place,
-  (there, (receipt.stamp, put.1)),
-  read_is size middle new i key read own there came is,
-  placed_at read own (receipt.place + 1) is behind,
+  made.1.place,
+  (
+    there,
+    (
+      made.1.stamp,
+      subst (λ n. IsNews old middle (call_of n made.1.place made.1.stamp (request.Put key seen content) (outcome_ok (reply.Dot dot)))) there_is
+          (subst (λ q. IsNews old middle (call_of vnode made.1.place made.1.stamp q (outcome_ok (reply.Dot dot)))) put_is
+          (subst (λ r. IsNews old middle (call_of vnode made.1.place made.1.stamp asked (outcome_ok r))) dot_is put.1)),
+    ),
+  ),
+  read_is size middle new i key read own there (subst (λ n. CameTo middle new n (request.Read key) read) there_is came) is,
+  placed_at read own (made.1.place + 1) is behind,
 )
 
 -- a put and the read behind it are two calls, one behind the other

@@ -55,12 +55,14 @@ fn read_answer(back: Result<(Reply, Receipt), CallFault>) -> Result<Answer, Peer
     ensures { IsReadAs back result }
 {
     match back {
-        Ok((Reply::State(state), receipt)) => Ok(Answer {
-            from: receipt.vnode,
-            at: receipt.place,
-            state,
-        }),
-        Ok(_) => unreachable!(),
+        Ok((reply, receipt)) => match reply {
+            Reply::State(state) => Ok(Answer {
+                from: receipt.vnode,
+                at: receipt.place,
+                state,
+            }),
+            _ => unreachable!(),
+        },
         Err(fault) => Err(no_reply(fault)),
     }
 }

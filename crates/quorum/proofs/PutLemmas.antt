@@ -10,7 +10,6 @@ use Rattle.key_state.specs.declared.content.Key.{Key}
 use Rattle.peers.specs.declared.peers.Answer.{Answer}
 use Rattle.peers.specs.declared.fault.PeerFault.{PeerFault}
 use Rattle.peers.specs.Calls.{Call, MergeAt, StateOf, Made}
-use Rattle.quorum.specs.Faults.{fault_of}
 use Rattle.quorum.specs.Puts.{Brought, PassedOver, Merged, gathers, merges, copies, is_ahead, put_of, reads_behind, IsReadFor, TriesAgain, AfterRead, AfterStored, AfterPut, AfterFirst}
 use Rattle.peers.proofs.CallLemmas.{made_end, made_append}
 
@@ -70,31 +69,27 @@ copies_end backs back = at_end back (count_by is_ok (backs ++ back ∷ [])) (cou
     at_end (Ok x) m n h = omega arith
     at_end (Err e) m n h = omega arith
 
-module _ (coordinator : ℕ) (others : List ℕ) (key : Key) (w : ℕ) (result : Result Dot QuorumFault) where
-  -- what follows a put, by what came of it and of the read behind it
-  abbrev Follows : Result (Dot × Option (Result Answer PeerFault)) PeerFault → List Call → Type 0
-  Follows back rest = AfterPut coordinator others key w (put_of back) (reads_behind coordinator key back ++ rest) result
+module _ (coordinator : ℕ) (others : List ℕ) (key : Key) (w : ℕ) (dot : Dot) (own : Option (Result Answer PeerFault)) (result : Result Dot QuorumFault) (read : IsReadFor others (Ok (dot, own))) where
+  -- what follows a put that was stored, and the read behind it
+  abbrev Follows : List Call → Type 0
+  Follows rest = AfterPut coordinator others key w (Ok dot) (reads_behind coordinator key (Ok (dot, own)) ++ rest) result
 
   -- a put whose copy is the only one
-  pub alone : (back : Result (Dot × Option (Result Answer PeerFault)) PeerFault) (dot : Dot) → IsReadFor others back → back ≡ Ok (dot, None) → result ≡ (if nat_le w 1 then Ok dot else Err TooFew) → Follows back []
-  alone back dot read is told = subst (λ b. Follows b []) (sym is) (by_others others (subst (IsReadFor others) is read))
+  pub alone : own ≡ None → result ≡ (if nat_le w 1 then Ok dot else Err TooFew) → Follows []
+  alone none told = subst (λ o. AfterStored coordinator others key w dot (reads_behind coordinator key (Ok (dot, o)) ++ []) result) (sym none) (by_others others (subst (λ o. IsReadFor others (Ok (dot, o))) none read))
     where
       by_others : (all : List ℕ) → IsReadFor all (Ok (dot, None)) → AfterStored coordinator all key w dot [] result
-      by_others [] none = (refl, told)
-      by_others (i ∷ more) none = absurd none
+      by_others [] is = (refl, told)
+      by_others (i ∷ more) is = absurd is
 
   -- a put that goes to others
-  pub not_alone : (back : Result (Dot × Option (Result Answer PeerFault)) PeerFault) (dot : Dot) (own : Result Answer PeerFault) (rest : List Call) → IsReadFor others back → back ≡ Ok (dot, Some own)
-      → AfterRead coordinator others key w dot own rest result → Follows back rest
-  not_alone back dot own rest read is after = subst (λ b. Follows b rest) (sym is) (by_others others (subst (IsReadFor others) is read) after)
+  pub not_alone : (back : Result Answer PeerFault) (rest : List Call) → own ≡ Some back → AfterRead coordinator others key w dot back rest result → Follows rest
+  not_alone back rest some after =
+      subst (λ o. AfterStored coordinator others key w dot (reads_behind coordinator key (Ok (dot, o)) ++ rest) result) (sym some) (by_others others (subst (λ o. IsReadFor others (Ok (dot, o))) some read) after)
     where
-      by_others : (all : List ℕ) → IsReadFor all (Ok (dot, Some own)) → AfterRead coordinator all key w dot own rest result → AfterStored coordinator all key w dot (StateOf coordinator key own ∷ rest) result
-      by_others [] none after = absurd none
-      by_others (i ∷ more) some after = (own, rest, refl, after)
-
-  -- a put that failed
-  pub not_put : (back : Result (Dot × Option (Result Answer PeerFault)) PeerFault) (fault : PeerFault) → back ≡ Err fault → result ≡ Err (fault_of fault) → Follows back []
-  not_put back fault is told = subst (λ b. Follows b []) (sym is) (refl, told)
+      by_others : (all : List ℕ) → IsReadFor all (Ok (dot, Some back)) → AfterRead coordinator all key w dot back rest result → AfterStored coordinator all key w dot (StateOf coordinator key back ∷ rest) result
+      by_others [] is after = absurd is
+      by_others (i ∷ more) is after = (back, rest, refl, after)
 
 -- no read is behind a put that was ahead
 pub ahead_unread : (coordinator : ℕ) (key : Key) (back : Result (Dot × Option (Result Answer PeerFault)) PeerFault) → is_ahead (put_of back) ≡ true → reads_behind coordinator key back ≡ []

@@ -199,6 +199,28 @@ fn spread<P: Peers>(peers: &mut P, key: &Key, answer: &Answer, vnodes: &[usize])
     stored
 }
 
+// After the coordinator stored it: the state that was read behind it goes to the others, if there are any.
+fn replicate<P: Peers>(
+    peers: &mut P,
+    request: PutRequest<'_>,
+    dot: Dot,
+    own: Option<Result<Answer, PeerFault>>,
+) -> Result<Dot, QuorumFault>
+    requires few { length request.others.now < 2 ^ 32 }
+    requires read { IsReadFor request.others.now (Ok (dot, own)) }
+    ensures { (calls : List Call) × Made P.happens peers.old calls peers.new × AfterPut request.entry.coordinator request.entry.others.now request.entry.key.now request.entry.w (Ok dot) (reads_behind request.entry.coordinator request.entry.key.now (Ok (dot, own)) ++ calls) result }
+{
+    match own {
+        None => enough(request.w, 1, dot),
+        Some(Ok(own)) => enough(
+            request.w,
+            spread(peers, request.key, &own, request.others),
+            dot,
+        ),
+        Some(Err(fault)) => Err(quorum_fault(fault)),
+    }
+}
+
 // What a put answers of so many copies: its dot where w are there.
 fn enough(w: usize, copies: usize, dot: Dot) -> Result<Dot, QuorumFault>
     ensures { result ≡ (if nat_le w copies then Ok dot else Err QuorumFault.TooFew) }
@@ -210,7 +232,7 @@ fn enough(w: usize, copies: usize, dot: Dot) -> Result<Dot, QuorumFault>
     }
 }
 
-// After the coordinator's last put: the state that was read behind it goes to the others, if there are any.
+// After the coordinator's last put.
 fn finish<P: Peers>(
     peers: &mut P,
     request: PutRequest<'_>,
@@ -221,12 +243,8 @@ fn finish<P: Peers>(
     ensures { (calls : List Call) × Made P.happens peers.old calls peers.new × AfterPut request.entry.coordinator request.entry.others.now request.entry.key.now request.entry.w (put_of back) (reads_behind request.entry.coordinator request.entry.key.now back ++ calls) result }
 {
     match back {
-        Ok((dot, None)) => enough(request.w, 1, dot),
-        Ok((dot, Some(Ok(own)))) => {
-            let stored = spread(peers, request.key, &own, request.others);
-            enough(request.w, stored, dot)
-        }
-        Ok((_, Some(Err(fault)))) | Err(fault) => Err(quorum_fault(fault)),
+        Ok((dot, own)) => replicate(peers, request, dot, own),
+        Err(fault) => Err(quorum_fault(fault)),
     }
 }
 
