@@ -1,7 +1,7 @@
 //! The servers of a ring, and which of them there may be.
 
 ghost use Rattle.std.specs.Prelude.{◌≡◌, ◌==◌, ◌↔◌, ◌+◌, ◌*◌, ◌≤◌, IfOk, IsTrue};
-ghost use Rattle.std.specs.List.{AllByRecursion, list_any};
+ghost use Rattle.std.specs.List.{AllByRecursion, list_all, list_any};
 ghost use Rattle.peer_members.specs.Members.{AreRising, IsMembers, MayBe, digest_of, is_address, is_visible};
 
 use crate::limits::{
@@ -108,8 +108,22 @@ pub(crate) fn is_address(text: &[u8]) -> bool
 {
     MIN_ADDRESS_BYTES <= text.len()
         && text.len() <= MAX_ADDRESS_BYTES
-        && text.iter().all(|byte| is_visible(*byte))
-        && text.iter().any(|byte| *byte == b':')
+        && are_visible(text)
+        && has_colon(text)
+}
+
+/// Whether these are visible characters of ASCII.
+fn are_visible(text: &[u8]) -> bool
+    ensures { result ≡ list_all is_visible text.now }
+{
+    text.iter().all(|byte| is_visible(*byte))
+}
+
+/// Whether a colon is among these.
+fn has_colon(text: &[u8]) -> bool
+    ensures { result ≡ list_any (λ byte. byte == 58) text.now }
+{
+    text.iter().any(|byte| *byte == b':')
 }
 
 /// Whether this is a visible character of ASCII.
