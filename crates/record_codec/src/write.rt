@@ -147,7 +147,7 @@ fn room_after_sibling(one: &Sibling, room: usize) -> Option<usize>
 }
 
 /// Adds a key.
-fn put_key(out: &mut Vec<u8>, whole: &Key) -> Result<(), AllocError>
+pub fn put_key(out: &mut Vec<u8>, whole: &Key) -> Result<(), AllocError>
     requires { IsKey whole.now }
     ensures { OnOk result (out.new.items ≡ out.old.items ++ key whole.now) }
 {
@@ -156,7 +156,7 @@ fn put_key(out: &mut Vec<u8>, whole: &Key) -> Result<(), AllocError>
 }
 
 /// Adds the entries of a clock behind their number.
-fn put_clock(out: &mut Vec<u8>, whole: &Clock) -> Result<(), AllocError>
+pub fn put_clock(out: &mut Vec<u8>, whole: &Clock) -> Result<(), AllocError>
     ensures written { OnOk result (out.new.items ≡ out.old.items ++ clock whole.now) }
     ensures narrow { OnOk result (AreNarrow whole.now) }
 {
@@ -177,7 +177,7 @@ fn put_dots(out: &mut Vec<u8>, dots: &[Dot]) -> Result<(), AllocError>
 }
 
 /// Adds a dot.
-fn put_dot(out: &mut Vec<u8>, one: Dot) -> Result<(), AllocError>
+pub fn put_dot(out: &mut Vec<u8>, one: Dot) -> Result<(), AllocError>
     ensures written { OnOk result (out.new.items ≡ out.old.items ++ dot one) }
     ensures narrow { one.vnode < 2 ^ 32 }
 {
@@ -186,7 +186,7 @@ fn put_dot(out: &mut Vec<u8>, one: Dot) -> Result<(), AllocError>
 }
 
 /// Adds siblings behind their number.
-fn put_siblings(out: &mut Vec<u8>, all: &[Sibling]) -> Result<(), AllocError>
+pub fn put_siblings(out: &mut Vec<u8>, all: &[Sibling]) -> Result<(), AllocError>
     requires few { length all.now < 2 ^ 32 }
     requires contents { AreContents all.now }
     ensures { OnOk result (out.new.items ≡ out.old.items ++ siblings all.now) }
@@ -216,7 +216,7 @@ fn put_sibling(out: &mut Vec<u8>, one: &Sibling) -> Result<(), AllocError>
 }
 
 /// Adds a content.
-fn put_content(out: &mut Vec<u8>, one: &Content) -> Result<(), AllocError>
+pub fn put_content(out: &mut Vec<u8>, one: &Content) -> Result<(), AllocError>
     requires { IsContent one.now }
     ensures { OnOk result (out.new.items ≡ out.old.items ++ content one.now) }
 {
