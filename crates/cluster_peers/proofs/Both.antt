@@ -1,5 +1,5 @@
 -- A read, and a put with the read behind it, at the vnodes of a cluster.
-use Rattle.std.proofs.Common.{◌≡◌, ◌≢◌, ◌<◌, ◌+◌, ◌-◌, ◌^◌, ℕ, List, Result, Ok, Err, IfOk, IfErr, refl, sym, ap, ◌∙◌, subst, inr, min, if◌then◌else◌}
+use Rattle.std.proofs.Common.{◌≡◌, ◌<◌, ◌+◌, ◌-◌, ◌^◌, ℕ, List, Result, Ok, Err, IfOk, IfErr, refl, sym, subst, inr, min, if◌then◌else◌}
 use Rattle.dvv.specs.declared.Dot.{Dot}
 use Rattle.key_state.specs.declared.content.Content.{Content}
 use Rattle.key_state.specs.declared.content.Key.{Key}

@@ -215,7 +215,8 @@ fn put_and_read<P: Peers>(
 {
     match peers.put_and_read_at(coordinator, key, seen, content) {
         Ok((_, Ok(own))) => Ok(own.state),
-        Ok((_, Err(fault))) | Err(fault) => Err(fault),
+        Ok((_, Err(fault))) => Err(fault),
+        Err(fault) => Err(fault),
     }
 }
 

@@ -1,4 +1,4 @@
-use Rattle.std.proofs.Common.{◌≡◌, List, ◌∷◌, ◌++◌, refl, sym, ap, ◌∙◌}
+use Rattle.std.proofs.Common.{List, ◌∷◌, ◌++◌, refl, sym, ap, ◌∙◌}
 use Rattle.peers.specs.Calls.{Call, PutAt}
 use Rattle.quorum.specs.Puts.{gathers, put_of, reads_behind}
 use Rattle.peers.proofs.CallLemmas.{made_append}

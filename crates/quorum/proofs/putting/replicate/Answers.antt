@@ -1,4 +1,4 @@
-use Rattle.std.proofs.Common.{ℕ, [], ◌∷◌, Ok, Err, Some, Result, Option, refl, ap, ◌∙◌}
+use Rattle.std.proofs.Common.{ℕ, [], Ok, Err, Some, Result, refl, ap, ◌∙◌}
 use Rattle.std.specs.Prelude.{nat_le, if◌then◌else◌}
 use Rattle.dvv.specs.declared.Dot.{Dot}
 use Rattle.peers.specs.declared.peers.Answer.{Answer}
