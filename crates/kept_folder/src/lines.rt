@@ -1,6 +1,6 @@
 //! Lines of a word and a number.
 
-ghost use Rattle.std.specs.Prelude.{◌≡◌, IfOk, IfSome};
+ghost use Rattle.std.specs.Prelude.{◌≡◌, ◌<◌, ◌≤◌, IfOk, IfSome, length};
 ghost use Rattle.kept_folder.specs.Numbers.{line_of};
 
 use std::alloc::{AllocError, Global};
@@ -23,4 +23,17 @@ pub(crate) fn number_in(alloc: Global, word: &str, bytes: &[u8]) -> Result<Optio
 fn decimal_in(word: &str, bytes: &[u8]) -> Option<u32> {
     let digits = bytes.strip_prefix(word.as_bytes())?.strip_suffix(b"\n")?;
     std::str::from_utf8(digits).ok()?.parse().ok()
+}
+
+/// Where the first line of bytes ends; the end where no line does.
+pub(crate) fn line_end(bytes: &[u8]) -> usize
+    ensures inside { result ≤ length bytes.now }
+    ensures some { 0 < length bytes.now → 0 < result }
+{
+    for (place, byte) in bytes.iter().enumerate() {
+        if *byte == b'\n' {
+            return place + 1;
+        }
+    }
+    bytes.len()
 }
