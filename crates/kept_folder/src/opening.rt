@@ -1,6 +1,6 @@
 //! What a start reads of a folder, and what it writes there of itself.
 
-ghost use Rattle.std.specs.Prelude.{◌≡◌, ◌⊎◌, ◌<◌, ◌≤◌, ◌/◌, ◌+◌, ◌++◌, [], ℕ, List, Option, None, Some, IfErr, IfOk, IfNone, IfSome, IsSome, IsTrue, OnOk, Contains, codes, max, option_to_list};
+ghost use Rattle.std.specs.Prelude.{◌≡◌, ◌↔◌, ◌⊎◌, ◌<◌, ◌≤◌, ◌/◌, ◌+◌, ◌++◌, [], ℕ, List, Option, None, Some, IfErr, IfOk, IfNone, IfSome, IsSome, IsTrue, OnOk, Contains, codes, max, option_to_list};
 ghost use Rattle.std.specs.List.{AllByRecursion};
 ghost use Rattle.kept_file.specs.Numbers.{IsNamed, all_ids};
 ghost use Rattle.kept_folder.specs.Numbers.{EarlierText, IsFiled, IsLastIn, number_text, start_text};
@@ -261,15 +261,15 @@ fn put_start<F: Folder>(
 {
     let wanted = start_bytes(alloc, number, Some(filed))?;
     let found = folder.read(alloc, INCARNATION)?;
-    if holds(found.as_ref(), &wanted) {
+    if holds(&found, &wanted) {
         return Ok(());
     }
     replace(alloc, folder, INCARNATION, &wanted)
 }
 
-/// Whether a file that was read holds bytes.
-fn holds(found: Option<&Vec<u8>>, wanted: &[u8]) -> bool
-    ensures { IsTrue result → IfSome found (λ bytes. bytes.now.items ≡ wanted.now) × IsSome found }
+/// Whether a file that was read holds these bytes.
+fn holds(found: &Option<Vec<u8>>, wanted: &[u8]) -> bool
+    ensures { IsTrue result → bytes_in found.now ≡ Some wanted.now }
 {
     match found {
         Some(bytes) => bytes.as_slice() == wanted,
