@@ -3,7 +3,7 @@
 ghost use Rattle.std.specs.Prelude.{◌≡◌, ◌↔◌, ◌⊎◌, ◌<◌, ◌≤◌, ◌/◌, ◌+◌, ◌++◌, [], ℕ, List, Option, None, Some, IfErr, IfOk, IfNone, IfSome, IsSome, IsTrue, OnOk, Contains, codes, max, option_to_list};
 ghost use Rattle.std.specs.List.{AllByRecursion};
 ghost use Rattle.kept_file.specs.Numbers.{IsNamed, all_ids};
-ghost use Rattle.kept_folder.specs.Numbers.{EarlierText, IsFiled, IsLastIn, number_text, start_text};
+ghost use Rattle.kept_folder.specs.Numbers.{EarlierText, IsFiled, IsLastIn, filed_text, number_text, start_text};
 ghost use Rattle.kept_folder.specs.Reads.{AreAllFiles, AreThere, IsFileIn, IsFoundAt, IsHeldIn, IsReadAt, IsUnsealed, IsVnodeIn, bytes_in, most_vnodes, name_of, vnodes_in as vnodes_from, vnodes_of};
 ghost use Rattle.kept_folder.specs.Seals.{sealed};
 ghost use Rattle.kept_folder.specs.Settings.{IsSetBy};
@@ -12,7 +12,7 @@ ghost use Rattle.kept_folder.specs.Steps.{IsPut};
 
 use crate::files::{FileFault, Folder};
 use crate::limits::MAX_VNODES;
-use crate::lines::{line_end, number_in};
+use crate::lines::{line_end, line_of, number_in};
 use crate::logs::{LogFault, Logs, add_logs};
 use crate::names::{HOOKS, INCARNATION, NUMBER_WORD, SETTINGS, VNODES_WORD, name_of};
 use crate::sealing::{seal, unseal};
@@ -224,11 +224,20 @@ fn take<F: Folder>(
 fn start_bytes(alloc: Global, number: u32, filed: Option<u32>) -> Result<Vec<u8>, AllocError>
     ensures { IfOk result (λ bytes. bytes.items ≡ sealed (start_text number filed)) }
 {
-    let text = match filed {
-        Some(count) => format!(in alloc; "{NUMBER_WORD}{number}\n{VNODES_WORD}{count}\n")?,
-        None => format!(in alloc; "{NUMBER_WORD}{number}\n")?,
-    };
-    seal(alloc, text.as_bytes())
+    let mut text = Vec::new(alloc);
+    text.extend_from_slice(line_of(alloc, NUMBER_WORD, number)?.as_bytes())?;
+    push_filed(alloc, &mut text, filed)?;
+    seal(alloc, &text)
+}
+
+/// Adds how many vnodes have files, where that is known.
+fn push_filed(alloc: Global, text: &mut Vec<u8>, filed: Option<u32>) -> Result<(), AllocError>
+    ensures { OnOk result (text.new.items ≡ text.old.items ++ filed_text filed) }
+{
+    match filed {
+        Some(count) => { text.extend_from_slice(line_of(alloc, VNODES_WORD, count)?.as_bytes()) }
+        None => Ok(()),
+    }
 }
 
 /// Has the number of a start stand in its folder, and that so many vnodes have files, each of which is whole there: where records are and no
@@ -385,9 +394,9 @@ fn last_in<F: Folder>(alloc: Global, folder: &F) -> Result<Last, OpenFault>
         });
     };
     match start_in(alloc, &text)? {
-        Some(TakenNumber { number, filed }) => Ok(Last {
-            number: Some(number),
-            filed,
+        Some(start) => Ok(Last {
+            number: Some(start.number),
+            filed: start.filed,
         }),
         None => Err(OpenFault::Unsealed { name: INCARNATION }),
     }
@@ -477,7 +486,8 @@ fn vnodes_in<F: Folder + Sync, R: Threads + Sync>(
     ensures files { IfOk result (λ files. AllByRecursion (IsVnodeIn (F.finds folder.now)) files.items) }
     ensures there { IfOk result (λ files. AreThere (F.finds folder.now) filed) }
 {
-    let first = sought(file_in(alloc, rt, folder, 0, &[])?, 0, filed)?;
+    let own = file_in(alloc, rt, folder, 0, &[])?;
+    let first = sought(own, 0, filed)?;
     let records = records_read(first.as_ref());
     let others = thread::map_indices(
         rt,
@@ -485,19 +495,16 @@ fn vnodes_in<F: Folder + Sync, R: Threads + Sync>(
         MAX_VNODES - 1,
         &|place: usize| -> Result<Option<KeptFile>, OpenFault>
             requires { place < 15 }
-            ensures { IfOk result (λ file. IsFoundAt (F.finds folder.entry.now) (place + 1) file × (IsFiled filed (place + 1) → IsSome file)) }
-        {
-            sought(
-                file_in(alloc, rt, folder, place + 1, records)?,
-                place + 1,
-                filed,
-            )
-        },
+            ensures { IfOk result (λ file. IsFoundAt (F.finds folder.entry.now) (place + 1) file) }
+        { file_in(alloc, rt, folder, place + 1, records) },
     )?;
     let mut files = Vec::with_capacity(alloc, MAX_VNODES)?;
     add(&mut files, first)?;
+    let mut index = 0usize;
     for answer in others {
-        let found = answer?;
+        index = index.saturating_add(1);
+        let read = answer?;
+        let found = sought(read, index, filed)?;
         add(&mut files, found)?;
     }
     Ok(files)
