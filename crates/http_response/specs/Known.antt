@@ -1,5 +1,5 @@
 -- Whether a client has what would be shown, by the entity tags that it lists (RFC 9110, 13.1.2).
-use Rattle.std.specs.Prelude.{ℕ, Bool, ◌||◌, ◌==◌, ◌++◌, bytes_eq, List, ◌∷◌, [], codes}
+use Rattle.std.specs.Prelude.{ℕ, Bool, ◌||◌, ◌==◌, ◌++◌, bytes_eq, List, codes}
 use Rattle.std.specs.List.{list_any, slice_split}
 
 -- commas and blanks stand between the tags of a list

@@ -7,7 +7,7 @@ use Rattle.http_response.specs.Answer.{told, quoted, list_tag, parts_tag, vclock
 use Rattle.http_response.specs.Parts.{line, field_line, tag_of}
 use Rattle.http_response.specs.declared.field.Answer.{Answer}
 use Rattle.http_response.specs.declared.found.Found.{Found}
-use Rattle.http_response.specs.declared.found.Found.TheVariants as found
+use Rattle.http_response.specs.declared.found.Found.TheVariants as finds
 use Rattle.http_response.specs.declared.field.Read.{Read}
 use Rattle.http_response.specs.declared.field.Validator.{Validator}
 use Rattle.http_response.specs.declared.field.Validator.TheVariants.{Nothing, Write, List as ListTag, Parts as PartsTag}
@@ -62,11 +62,11 @@ line_of l = record (told l.status.now l.text.now) { allow = option_copied l.allo
 
 -- what is found
 abbrev pub found : Found → spec.Found
-found found.Nothing = nothing
-found found.Deleted = deleted
-found (found.One dot media bytes) = one dot media.now bytes.now
-found (found.Listed siblings) = listed siblings.now
-found (found.InParts siblings) = in_parts siblings.now
+found finds.Nothing = nothing
+found finds.Deleted = deleted
+found (finds.One dot media bytes) = one dot media.now bytes.now
+found (finds.Listed siblings) = listed siblings.now
+found (finds.InParts siblings) = in_parts siblings.now
 
 -- an answer with what is told of a key: its context, an entity tag, and whether tombstones alone are found
 abbrev pub told_of : Read → spec.Answer → spec.Answer

@@ -77,10 +77,22 @@ pub(crate) fn found_of<'s>(
     ensures { IfOk result (λ f. found f ≡ spec.found_of form.now siblings.now) }
 {
     match form {
-        Form::One(tag) => Ok(found_sibling(find_tag(text, siblings, tag.as_slice())?)),
+        Form::One(tag) => found_tagged(text, siblings, tag.as_slice()),
         Form::Text => Ok(found_among(siblings, Found::Listed(siblings))),
         Form::Parts => Ok(found_among(siblings, Found::InParts(siblings))),
     }
+}
+
+// What is found by a tag.
+fn found_tagged<'s>(
+    text: &mut Vec<u8>,
+    siblings: &'s [Sibling],
+    tag: &[u8],
+) -> Result<Found<'s>, AllocError>
+    ensures { IfOk result (λ f. found f ≡ spec.found_sibling (find (λ s. bytes_eq (tag_of s.dot) tag.now) siblings.now)) }
+{
+    let sibling = find_tag(text, siblings, tag)?;
+    Ok(found_sibling(sibling))
 }
 
 // What is found among all siblings, where several are shown so.
@@ -98,11 +110,17 @@ fn found_among<'s>(siblings: &'s [Sibling], several: Found<'s>) -> Found<'s>
 fn found_several<'s>(siblings: &'s [Sibling], several: Found<'s>) -> Found<'s>
     ensures { (shows : List Item → spec.Found) → found several.entry ≡ shows siblings.now → found result ≡ spec.found_several shows siblings.now }
 {
-    if siblings.iter().all(|s| is_tombstone(&s.content)) {
+    if are_tombstones(siblings) {
         Found::Deleted
     } else {
         several
     }
+}
+
+fn are_tombstones(siblings: &[Sibling]) -> bool
+    ensures { result ≡ list_all (λ s. spec.is_tombstone s.content) siblings.now }
+{
+    siblings.iter().all(|s| is_tombstone(&s.content))
 }
 
 fn is_tombstone(content: &Content) -> bool

@@ -1,8 +1,7 @@
-use Rattle.std.proofs.Common.{ap, sym, ◌∙◌, ◌++◌, ◌∷◌, [], append-nil}
-use Rattle.std.specs.Prelude.{codes}
+use Rattle.std.proofs.Common.{ap, sym, ◌∙◌, ◌++◌, ◌∷◌, []}
 use Rattle.http_response.specs.Answer.{or_nothing}
 use Rattle.http_response.specs.View.{etag_by}
-use Rattle.http_response.proofs.Pieces.{no_line, tag_line}
+use Rattle.http_response.proofs.Pieces.{tag_line}
 use Rattle.http_response.proofs.field.push_etag.Goals as goal
 
 pub returns : goal.returns
