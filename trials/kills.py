@@ -33,7 +33,7 @@ class Size:
     rounds: int
 
 
-FULL, SHORT = Size(rounds=300), Size(rounds=12)
+FULL, SHORT = Size(rounds=3_000), Size(rounds=12)
 
 SYNCS = (b"always", b"everysec", b"never")
 
@@ -45,6 +45,8 @@ PIPED = 40
 PIPED_OF_A_START = 400
 PIPED_BEFORE = 200
 PIPE_REST_SECONDS = 0.01
+MOST_CHANGES_BEFORE = 30
+SECONDS_BEFORE = 5
 BOUND = "the hook is bound"
 
 # Of a key the sets of values of which one stands there; of the hook whether it is bound.
@@ -209,6 +211,13 @@ class Piper(threading.Thread):
             self.faults.append(f"an answer that is none: {error}")
 
 
+def wait_for(writers: list[Writer], changes: int) -> None:
+    """Waits until there were so many changes, where the machine has much else to do, or for some seconds."""
+    until = time.monotonic() + SECONDS_BEFORE
+    while sum(len(writer.tags) for writer in writers) < changes and time.monotonic() < until:
+        time.sleep(0.005)
+
+
 def ask_for_snapshots(server: Server, chance: random.Random) -> list[str]:
     """Asks for some snapshots, of which the last may be under way when this ends. Gives what was told otherwise."""
     faults = []
@@ -267,6 +276,7 @@ class Life:
             piper = Piper(server, self.piped, random.Random(self.chance.random()))
             for thread in [*writers, piper]:
                 thread.start()
+            wait_for(writers, self.chance.randrange(MOST_CHANGES_BEFORE))
             faults += ask_for_snapshots(server, self.chance)
             if is_stopped:
                 faults += self.end_of(server)

@@ -45,7 +45,7 @@ SHORT = Size(rounds=1, seconds=0.3, connections=(1, 64), threads=4, workers=4)
 STORES = (("store", ""), ("store", "never"), ("store", "everysec"), ("store", "always"))
 REDISES = (("redis", ""), ("redis", "no"), ("redis", "everysec"), ("redis", "always"))
 ASKED = (*STORES, *REDISES, ("etcd", "always"))
-HEADS = ("no log (`serve`)", "`never`", "`everysec`", "`always`", "redis, no log", "`no`", "`everysec`", "`always`", "etcd v2", "of redis' `always`")
+HEADS = ("no log (`serve`)", "`never`", "`everysec`", "`always`", "redis, no log", "`no`", "`everysec`", "`always`", "etcd v2", "of redis")
 METHODS = ("PUT", "GET")
 MANY, MANY_TOGETHER = 64, 16
 FEW_KEYS = 1_000

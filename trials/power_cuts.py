@@ -6,7 +6,8 @@ them `traces.py` builds what a power cut may leave at a place of the trace: what
 spoilt; names that were forced, and of the others any. The store has to start from each of these, and has to show what was acknowledged
 before that place: values, siblings, and what is superseded, as contexts say, and the hook's binding. Under `sync always` that is each
 write; under the others each that was acknowledged before a force of the log began that has ended. Most lives begin with what a cut left
-of the life before. What the calls did in the model is compared with what stands in the folder at the end.
+of the life before, and in some a call of the system fails. Some values are pieces of logs, whole records too. What the calls did in the
+model is compared with what stands in the folder at the end.
 """
 from __future__ import annotations
 
@@ -40,13 +41,16 @@ class Size:
     cuts: int
 
 
-FULL, SHORT = Size(lives=12, writes=150, cuts=450), Size(lives=1, writes=40, cuts=25)
+FULL, SHORT = Size(lives=12, writes=150, cuts=900), Size(lives=1, writes=40, cuts=25)
 
 SYNCS = (b"always", b"everysec", b"always", b"never")
 WRITERS = 3
 OWN_KEYS, SHARED_KEYS = 3, ["shared-1", "shared-2"]
 STARTS_AT_ONCE = 4
 FORCED_WITHIN_SECONDS = 4
+# Of which lives calls fail, how, and which ones of each thread may: none of the start, which would be refused.
+FAULTY_LIVES = 3
+FAULTS = {"fdatasync:error=EIO": (3, 25), "fsync:error=EIO": (9, 20), "rename:error=EIO": (3, 8), "unlink:error=EIO": (1, 2)}
 HOOK = "/hooks/no"
 PROPERTIES = "/buckets/bound/props"
 
@@ -102,18 +106,38 @@ def is_bound(server: Server) -> bool:
         return json.loads(client.must(200, "GET", PROPERTIES).body)["props"]["precommit"] == "no"
 
 
-@dataclass
-class Life:
-    """One life of a store: how the log is forced, what is known of it, and what strace told."""
+@dataclass(frozen=True)
+class How:
+    """How the log is forced in a life, and which calls fail, in strace's words."""
 
     sync: bytes
+    fault: str
+
+    def __str__(self) -> str:
+        return f"sync {self.sync.decode()}" + (f", {self.fault}" if self.fault else "")
+
+
+def how_of(number: int, chance: random.Random) -> How:
+    """How a life goes, by its number."""
+    sync = SYNCS[number % len(SYNCS)]
+    if number % FAULTY_LIVES != FAULTY_LIVES - 1:
+        return How(sync, "")
+    fault = chance.choice(sorted(FAULTS))
+    return How(sync, f"{fault}:when={chance.randint(*FAULTS[fault])}")
+
+
+@dataclass
+class Life:
+    """One life of a store: how it goes, what is known of it, and what strace told."""
+
+    how: How
     state: State
     trace: Trace
 
     def has_to_be_there(self, one: Write, place: int) -> bool:
         """Whether a write was acknowledged before a cut, and, where not each write is forced, before a force that had ended."""
         told = self.trace.answered(one.port, one.number) if one.port else -1
-        if self.sync == b"always" or told < 0:
+        if self.how.sync == b"always" or told < 0:
             return told <= place
         return any(told < force.began and force.ended <= place for force in self.trace.log_forces)
 
@@ -135,11 +159,12 @@ class Life:
         return {one.is_bound for one in bindings[last : last + 2]}
 
 
-def live(found: Findings, program: Path, folder: Path, sync: bytes, state: State, size: Size, chance: random.Random) -> Life:
+def live(found: Findings, program: Path, folder: Path, how: How, state: State, size: Size, chance: random.Random) -> Life:
     """One life of a store that begins with what a folder holds."""
-    (folder / kept.SETTINGS).write_bytes(kept.NO_SNAPSHOTS_BY_ITSELF + b"sync %s\n" % sync)
-    traced = Traced(program, folder, chance.choice((1, 2, 4)), folder.parent / f"calls-{folder.name}")
+    (folder / kept.SETTINGS).write_bytes(kept.NO_SNAPSHOTS_BY_ITSELF + b"sync %s\n" % how.sync)
+    traced = Traced(program, folder, chance.choice((1, 2, 4)), folder.parent / f"calls-{folder.name}", how.fault)
     server, keys = traced.server, SHARED_KEYS
+    quoted = b"".join(file.first for name, file in traced.device.first.items() if name.startswith("log-"))
     writers = []
     for number in range(WRITERS):
         own = [f"w{number}-{place}" for place in range(OWN_KEYS)]
@@ -147,16 +172,17 @@ def live(found: Findings, program: Path, folder: Path, sync: bytes, state: State
             state.known.setdefault(key, Known())
         name = f"w{number}-{folder.name}"
         writers.append(Writer(server, name, state.known, [*own, *keys], size.writes, random.Random(chance.random())))
+        writers[-1].quoted = quoted
     binder = Binder(server, state.bindings, 2 + size.writes // 20, random.Random(chance.random()))
     with server:
         for thread in [*writers, binder]:
             thread.start()
         for line in snapshots(server, chance):
-            found.hold(kept.is_whole_snapshot(line), f"a snapshot: {line}")
-        end(found, server, writers, binder, sync, chance)
+            found.hold(how.fault or kept.is_whole_snapshot(line), f"a snapshot: {line}")
+        end(found, server, [*writers, binder], how, chance)
     faults = [fault for thread in [*writers, binder] for fault in thread.faults]
     found.hold(not faults, f"answers: {faults[:3]}")
-    life = Life(sync, state, traced.trace())
+    life = Life(how, state, traced.trace())
     found.hold(not life.trace.unknown, f"calls that the model doesn't know: {sorted(set(life.trace.unknown))}")
     stands, seen = life.trace.device.whole(), kept.contents(folder)
     wrong = [name for name, data in stands.items() if seen.get(name) != data]
@@ -172,20 +198,20 @@ def snapshots(server: Server, chance: random.Random) -> list[str | None]:
     return lines
 
 
-def end(found: Findings, server: Server, writers: list[Writer], binder: Binder, sync: bytes, chance: random.Random) -> None:
+def end(found: Findings, server: Server, clients: list[threading.Thread], how: How, chance: random.Random) -> None:
     """Has a life end: in the midst of writes or behind them, by a kill or a stop."""
     way = chance.randrange(4)
     if way:
-        for thread in [*writers, binder]:
+        for thread in clients:
             thread.join()
-        if sync == b"everysec":
+        if how.sync == b"everysec":
             time.sleep(FORCED_WITHIN_SECONDS)
     if way == 1:
         ended = server.stop()
-        found.hold(ended is not None and ended.is_in_order, f"the end: {ended}")
+        found.hold(ended is not None and (how.fault or ended.is_in_order), f"the end: {ended}")
     else:
         server.kill()
-    for thread in [*writers, binder]:
+    for thread in clients:
         thread.join()
 
 
@@ -199,17 +225,9 @@ def start(program: Path, cut: Cut, folder: Path, keys: list[str]) -> tuple[dict[
         return shown, bound, server.told.texts()
 
 
-@dataclass
-class Tally:
-    cuts: int = 0
-    kinds: set[tuple[int, int]] = field(default_factory=set)
-    writes: int = 0
-    torn: int = 0
-
-
 def try_cut(found: Findings, program: Path, life: Life, place: int, cut: Cut, folder: Path) -> bool:
     """Starts from what a cut left, and judges what is shown. Whether something was told to be torn."""
-    what = f"{folder.name}, sync {life.sync.decode()}, cut behind call {place}, {'; '.join(cut.words) or 'all forced'}"
+    what = f"{folder.name}, {life.how}, cut behind call {place}, {'; '.join(cut.words) or 'all forced'}"
     try:
         shown, bound, told = start(program, cut, folder, list(life.state.known))
     except NoStart as refused:
@@ -220,14 +238,21 @@ def try_cut(found: Findings, program: Path, life: Life, place: int, cut: Cut, fo
     return any(line.startswith("log-") for line in told)
 
 
+def some_places(places: list[int], count: int, chance: random.Random) -> list[int]:
+    """So many places: each once before any comes again."""
+    order: list[int] = []
+    while places and len(order) < count:
+        order += chance.sample(places, len(places))
+    return order[:count]
+
+
 def try_cuts(found: Findings, program: Path, life: Life, count: int, room: Path, chance: random.Random) -> int:
     """Cuts power at so many places of a life. Gives how many folders that were left differ."""
     places = life.trace.device.places()
     tried = set()
     with ThreadPoolExecutor(STARTS_AT_ONCE) as pool:
         waiting = []
-        for number in range(count):
-            place = chance.choice(places)
+        for number, place in enumerate(some_places(places, count, chance)):
             cut = life.trace.device.cut(place, chance)
             mark = hash((place, *sorted(cut.files.items())))
             if mark in tried:
@@ -236,7 +261,7 @@ def try_cuts(found: Findings, program: Path, life: Life, count: int, room: Path,
             waiting.append(pool.submit(try_cut, found, program, life, place, cut, room / f"cut-{number}"))
         torn = sum(one.result() for one in waiting)
     told = sum(1 for known in life.state.known.values() for one in known.writes if one.tag)
-    found.say(f"sync {life.sync.decode()}: {told} writes, {len(places)} places, {len(tried)} folders, {torn} of them with a log that was cut")
+    found.say(f"{life.how}: {told} writes, {len(places)} places, {len(tried)} folders, {torn} of them with a log that was torn")
     return len(tried)
 
 
@@ -265,7 +290,7 @@ def run(program: Path, seed: int, size: Size) -> Result:
                 folder.mkdir()
             else:
                 state = begin_with(program, cut, folder, state)
-            life = live(found, program, folder, SYNCS[number % len(SYNCS)], state, size, chance)
+            life = live(found, program, folder, how_of(number, chance), state, size, chance)
             cuts = room / f"cuts-{number}"
             cuts.mkdir()
             folders += try_cuts(found, program, life, size.cuts, cuts, chance)

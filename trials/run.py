@@ -58,6 +58,7 @@ NAMES = (
     "failing_calls",
     "failing_logs",
     "refused_snapshots",
+    "refused_logs",
     "refused_calls",
     "descriptors",
     "troubles",

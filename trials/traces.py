@@ -2,8 +2,9 @@
 
 The model of the device is the one that the store's proofs suppose (docs/PROVED.md, log_system), and POSIX's for names. A file whose
 force has ended holds what was written to it before that force began. What was written since is there, absent, torn at any byte, zeros
-in places, or anything else; what stood before it stays. A folder whose force has ended has the names that it had when that began. Of
-changes of names since each may be on the device or not, but for one order: of files that were removed, the first removed goes first.
+in places, or anything else; what stood before it stays. Behind a force that failed none counts, until the file is emptied. A folder
+whose force has ended has the names that it had when that began. Of changes of names since each may be on the device or not, but for
+one order: of files that were removed, the first removed goes first.
 """
 from __future__ import annotations
 
@@ -19,8 +20,8 @@ from trial import tool
 # All calls by which a server may change a folder or answer a client. One that this model doesn't know is told as such.
 KNOWN_CALLS = ("openat", "close", "write", "ftruncate", "fsync", "fdatasync", "rename", "unlink", "accept4", "sendto")
 UNKNOWN_CALLS = (
-    "open", "creat", "writev", "pwrite64", "pwritev", "pwritev2", "sendmsg", "sendfile", "copy_file_range", "fallocate", "truncate", "msync",
-    "sync_file_range", "renameat", "renameat2", "unlinkat", "link", "linkat", "symlink", "dup", "dup2", "dup3",
+    "open", "creat", "writev", "pwrite64", "pwritev", "pwritev2", "sendmsg", "sendfile", "copy_file_range", "fallocate", "truncate",
+    "msync", "sync_file_range", "renameat", "renameat2", "unlinkat", "link", "linkat", "symlink", "dup", "dup2", "dup3",
 )  # fmt: skip
 MOST_BYTES = 2**23
 LINE = re.compile(r"^(\d+) +(.*)$")
@@ -117,17 +118,19 @@ def forced_count(changes: Sequence[Change | Naming], forces: Sequence[Span], pla
 
 
 class File:
-    """A file, whatever names it has: what it held at first, its changes and its forces."""
+    """A file, whatever names it has: what it held at first, its changes, and its forces, but for those behind one that failed."""
 
     def __init__(self, first: bytes = b""):
         self.first = first
         self.changes: list[Change] = []
         self.forces: list[Span] = []
+        self.is_trusted = True
         self.length = len(first)
 
     def note(self, change: Change) -> None:
         self.changes.append(change)
         self.length = self.length + len(change.data) if change.cut_to is None else min(self.length, change.cut_to)
+        self.is_trusted = self.is_trusted or change.cut_to == 0
 
     def at(self, place: int) -> tuple[bytes, list[Change]]:
         """What was forced of it at a place in the trace, and its changes since."""
@@ -188,9 +191,10 @@ class Device:
 
     def places(self) -> list[int]:
         """Where something changes: behind each beginning and each end of a change or a force."""
-        files = {id(file): file for naming in self.namings for file in naming.names.values() if file} | {id(one): one for one in self.first.values()}
-        spans = [change.when for file in files.values() for change in file.changes] + [span for file in files.values() for span in file.forces]
-        spans += [naming.when for naming in self.namings] + self.forces
+        files = [*self.first.values(), *(file for naming in self.namings for file in naming.names.values() if file is not None)]
+        spans = [naming.when for naming in self.namings] + self.forces
+        for file in {id(file): file for file in files}.values():
+            spans += [change.when for change in file.changes] + file.forces
         return sorted({place for span in spans for place in (span.began, span.ended) if place != NOT_YET})
 
     def whole(self) -> dict[str, bytes]:
@@ -348,6 +352,12 @@ class Trace:
                 self.unknown.append(call.name)
             elif call.is_done or call.result is None:
                 made(call)
+            elif isinstance(file := self.forced_by(call), File):
+                file.is_trusted = False
+
+    def forced_by(self, call: Call) -> File | Talk | Device | None:
+        """What a call forces, if it is one that forces."""
+        return self.open.get(call.descriptor) if call.name in ("fsync", "fdatasync") else None
 
     def answered(self, port: int, number: int) -> int:
         """Where the answer to a request of a connection was sent, counted from 0; at no place where it wasn't."""
@@ -386,11 +396,10 @@ class Trace:
             file.note(Change(Span(call.began, call.ended), cut_to=int(call.text.split(", ")[1].split(")")[0])))
 
     def see_fsync(self, call: Call) -> None:
-        file, when = self.open.get(call.descriptor), Span(call.began, call.ended)
-        if isinstance(file, (File, Device)):
+        file, when = self.forced_by(call), Span(call.began, call.ended)
+        if isinstance(file, Device) or isinstance(file, File) and file.is_trusted:
             file.forces.append(when)
-        if id(file) in self.logs:
-            self.log_forces.append(when)
+            self.log_forces += [when] if id(file) in self.logs else []
 
     see_fdatasync = see_fsync
 
@@ -417,13 +426,14 @@ class Trace:
 
 
 class Traced:
-    """A kept store at whose calls strace looks from its first on."""
+    """A kept store at whose calls strace looks from its first on, and of whose calls it has some fail, in strace's words."""
 
-    def __init__(self, program: Path, folder: Path, workers: int, told: Path):
+    def __init__(self, program: Path, folder: Path, workers: int, told: Path, fault: str = ""):
         self.device, self.told = Device(folder), told
         calls = ",".join(KNOWN_CALLS + UNKNOWN_CALLS)
         # Its own process is the server's grandchild, so that the server can be killed alone.
         words = ["-D", "-f", "-q", "--seccomp-bpf", "-xx", "-s", str(MOST_BYTES), "-e", f"trace={calls}", "-o", str(told)]
+        words += ["-e", f"inject={fault}"] if fault else []
         words += [str(program), "keep", str(folder), AT_A_PORT_OF_THE_SYSTEM, str(workers)]
         self.server = Server(Path(tool("strace")), words)
 

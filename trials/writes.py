@@ -18,6 +18,7 @@ PARTS = {"Accept": "multipart/mixed"}
 REFUSALS = (409, 412, 503)
 MOST_SIBLINGS = 5
 MOST_PIPED = 12
+MOST_QUOTED_BYTES = 3_000
 
 # How many writes of each vnode a context counts.
 Counts = dict[int, int]
@@ -153,6 +154,8 @@ class Writer(threading.Thread):
         super().__init__(name=name)
         self.server, self.known, self.keys, self.count, self.chance = server, known, keys, count, chance
         self.older: dict[str, str] = {}
+        # Some values have a part of these bytes in them, as of a log.
+        self.quoted = b""
         self.faults: list[str] = []
         self.piped = 0
         self.acknowledged = 0
@@ -172,7 +175,11 @@ class Writer(threading.Thread):
 
     def value(self) -> bytes:
         length = self.chance.choice((0, 20, 100, 300, 300, 5_000 if self.chance.random() < 0.3 else 50))
-        return b"%s-%d-" % (self.name.encode(), self.chance.getrandbits(48)) + self.chance.randbytes(length)
+        rest = self.chance.randbytes(length)
+        if self.quoted and self.chance.random() < 0.1:
+            first = self.chance.randrange(len(self.quoted))
+            rest = self.quoted[first : first + MOST_QUOTED_BYTES]
+        return b"%s-%d-" % (self.name.encode(), self.chance.getrandbits(48)) + rest
 
     def sent(self, client: Numbered, key: str, value: bytes | None, context: str | None) -> tuple[Write, bytes]:
         """A write that is sent now, and its request."""
