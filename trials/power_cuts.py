@@ -5,9 +5,10 @@ asked for, until the server is stopped or killed. strace tells all calls by whic
 them `traces.py` builds what a power cut may leave at a place of the trace: what was forced, of the rest all, none, some, torn or
 spoilt; names that were forced, and of the others any. The store has to start from each of these, and has to show what was acknowledged
 before that place: values, siblings, and what is superseded, as contexts say, and the hook's binding. Under `sync always` that is each
-write; under the others each that was acknowledged before a force of the log began that has ended. Most lives begin with what a cut left
-of the life before, and in some a call of the system fails. Some values are pieces of logs, whole records too. What the calls did in the
-model is compared with what stands in the folder at the end.
+write; under the others each that was acknowledged before a force of the log began that has ended, and under `sync everysec` nothing is
+left to force some seconds behind the last write. Most lives begin with what a cut left of the life before, and in some a call of the
+system fails. Some values are pieces of logs, whole records too. What the calls did in the model is compared with what stands in the
+folder at the end.
 """
 from __future__ import annotations
 
@@ -47,7 +48,7 @@ SYNCS = (b"always", b"everysec", b"always", b"never")
 WRITERS = 3
 OWN_KEYS, SHARED_KEYS = 3, ["shared-1", "shared-2"]
 STARTS_AT_ONCE = 4
-FORCED_WITHIN_SECONDS = 4
+FORCED_WITHIN_SECONDS = 5
 # Of which lives calls fail, how, and which ones of each thread may: none of the start, which would be refused.
 FAULTY_LIVES = 3
 FAULTS = {"fdatasync:error=EIO": (3, 25), "fsync:error=EIO": (9, 20), "rename:error=EIO": (3, 8), "unlink:error=EIO": (1, 2)}
@@ -179,11 +180,13 @@ def live(found: Findings, program: Path, folder: Path, how: How, state: State, s
             thread.start()
         for line in snapshots(server, chance):
             found.hold(how.fault or kept.is_whole_snapshot(line), f"a snapshot: {line}")
-        end(found, server, [*writers, binder], how, chance)
+        is_idle = end(found, server, [*writers, binder], how, chance)
     faults = [fault for thread in [*writers, binder] for fault in thread.faults]
     found.hold(not faults, f"answers: {faults[:3]}")
     life = Life(how, state, traced.trace())
     found.hold(not life.trace.unknown, f"calls that the model doesn't know: {sorted(set(life.trace.unknown))}")
+    unforced = life.trace.unforced_writes() if is_idle and not how.fault else 0
+    found.hold(not unforced, f"{how}: {unforced} writes aren't forced after {FORCED_WITHIN_SECONDS} seconds")
     stands, seen = life.trace.device.whole(), kept.contents(folder)
     wrong = [name for name, data in stands.items() if seen.get(name) != data]
     found.hold(not wrong, f"the model of the folder isn't what stands in it: {wrong}")
@@ -198,8 +201,8 @@ def snapshots(server: Server, chance: random.Random) -> list[str | None]:
     return lines
 
 
-def end(found: Findings, server: Server, clients: list[threading.Thread], how: How, chance: random.Random) -> None:
-    """Has a life end: in the midst of writes or behind them, by a kill or a stop."""
+def end(found: Findings, server: Server, clients: list[threading.Thread], how: How, chance: random.Random) -> bool:
+    """Has a life end: in the midst of writes or behind them, by a kill or a stop. Whether it was killed after some idle seconds."""
     way = chance.randrange(4)
     if way:
         for thread in clients:
@@ -213,6 +216,7 @@ def end(found: Findings, server: Server, clients: list[threading.Thread], how: H
         server.kill()
     for thread in clients:
         thread.join()
+    return way > 1 and how.sync == b"everysec"
 
 
 def start(program: Path, cut: Cut, folder: Path, keys: list[str]) -> tuple[dict[str, Shown], bool, list[str]]:

@@ -345,7 +345,7 @@ class Trace:
         self.log_forces: list[Span] = []
         self.unknown: list[str] = []
         self.open: dict[int, File | Talk | Device] = {}
-        self.logs: set[int] = set()
+        self.logs: dict[int, File] = {}
         for call in sorted(calls, key=moment_of):
             made = getattr(self, f"see_{call.name}", None)
             if made is None:
@@ -354,6 +354,10 @@ class Trace:
                 made(call)
             elif isinstance(file := self.forced_by(call), File):
                 file.is_trusted = False
+
+    def unforced_writes(self) -> int:
+        """How many writes of logs weren't forced at the end."""
+        return sum(len(log.at(NOT_YET)[1]) for log in self.logs.values())
 
     def forced_by(self, call: Call) -> File | Talk | Device | None:
         """What a call forces, if it is one that forces."""
@@ -379,8 +383,8 @@ class Trace:
             file.note(Change(when, cut_to=0))
         if file is not None and call.is_done:
             self.open[call.result] = file
-        if name.startswith("log-"):
-            self.logs.add(id(file))
+        if file is not None and name.startswith("log-"):
+            self.logs[id(file)] = file
 
     def see_close(self, call: Call) -> None:
         self.open.pop(call.descriptor, None)
