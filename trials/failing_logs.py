@@ -16,7 +16,8 @@ from pathlib import Path
 
 import kept
 from server import AT_A_PORT_OF_THE_SYSTEM, NoStart, Server, request
-from trial import ALL, Findings, Result, tool
+from traces import strace
+from trial import ALL, Findings, Result
 
 NAME = "failing_logs"
 PROMISES = "Of the log each call of the system may fail: what is acknowledged stays, and writes go on."
@@ -69,7 +70,7 @@ class Size:
     faults: int
 
 
-FULL, SHORT = Size(faults=ALL), Size(faults=4)
+FULL, SHORT = Size(faults=ALL), Size(faults=3)
 
 
 def value_of(key: str) -> bytes:
@@ -153,7 +154,7 @@ def try_fault(found: Findings, program: Path, folder: Path, old: list[str], faul
         told = copy.parent / "calls"
         done: list[str] = []
         try:
-            with Server(Path(tool("strace")), fault.words(program, copy, told)) as server:
+            with Server(Path(strace()), fault.words(program, copy, told)) as server:
                 done = session(found, server, fault, is_stopped)
         except NoStart as refused:
             is_told = len(refused.printed) == 1 and refused.printed[0].startswith("refused ")
@@ -165,7 +166,7 @@ def try_fault(found: Findings, program: Path, folder: Path, old: list[str], faul
 
 
 def run(program: Path, seed: int, size: Size) -> Result:
-    tool("strace")
+    strace()
     found, chance = Findings(), random.Random(seed)
     faults = EACH if size.faults == ALL else chance.sample(EACH, size.faults)
     met = set()

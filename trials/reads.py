@@ -31,7 +31,7 @@ class Size:
     kills: int
 
 
-FULL, SHORT = Size(kills=300), Size(kills=9)
+FULL, SHORT = Size(kills=300), Size(kills=6)
 
 SYNCS = (b"always", b"everysec", b"never")
 SEVERAL = (2, 4)

@@ -8,14 +8,16 @@ one order: of files that were removed, the first removed goes first.
 """
 from __future__ import annotations
 
+import os
 import random
 import re
+import subprocess
 from collections.abc import Iterable, Iterator, Mapping, Sequence
 from dataclasses import dataclass, field
 from pathlib import Path
 
-from server import HEAD_END, AT_A_PORT_OF_THE_SYSTEM, Server
-from trial import tool
+from server import AT_A_PORT_OF_THE_SYSTEM, HEAD_END, Server
+from trial import Skipped, tool
 
 # All calls by which a server may change a folder or answer a client. One that this model doesn't know is told as such.
 KNOWN_CALLS = ("openat", "close", "write", "ftruncate", "fsync", "fdatasync", "rename", "unlink", "accept4", "sendto")
@@ -65,10 +67,10 @@ class Call:
         return data if self.result is None else data[: max(self.result, 0)]
 
 
-def calls_of(lines: Iterable[str]) -> list[Call]:
-    """The calls that a trace tells, in the order in which they began."""
+def calls_of(lines: Iterable[str], first: int = 0) -> list[Call]:
+    """The calls that lines of a trace tell, of which the first has this place, in the order in which they began."""
     calls, under_way = [], {}
-    for place, line in enumerate(lines):
+    for place, line in enumerate(lines, first):
         told = LINE.match(line)
         if told is None or told[2].startswith(("+++", "---")):
             continue
@@ -137,6 +139,10 @@ class File:
         count = forced_count(self.changes, self.forces, place)
         return content_with(self.first, self.changes[:count]), [change for change in self.changes[count:] if change.when.began <= place]
 
+    @property
+    def is_settled(self) -> bool:
+        return all(change.when.ended != NOT_YET for change in self.changes)
+
     def whole(self) -> bytes:
         return content_with(self.first, self.changes)
 
@@ -197,11 +203,15 @@ class Device:
             spans += [change.when for change in file.changes] + file.forces
         return sorted({place for span in spans for place in (span.began, span.ended) if place != NOT_YET})
 
-    def whole(self) -> dict[str, bytes]:
-        """What stands in the folder behind all calls, but for what a kill may have kept from being done."""
-        left = {name for naming in self.namings if naming.when.ended == NOT_YET for name in naming.names}
-        files = {name: file for name, file in self.now.items() if name not in left}
-        return {name: file.whole() for name, file in files.items() if all(change.when.ended != NOT_YET for change in file.changes)}
+    def whole(self) -> dict[str, bytes | None]:
+        """What stands in the folder behind all calls; None where a kill may have kept a change of a file or a name from being done."""
+        open_names = {name for naming in self.namings if naming.when.ended == NOT_YET for name in naming.names}
+        return {name: file.whole() if name not in open_names and file.is_settled else None for name, file in self.now.items()}
+
+    @property
+    def is_settled(self) -> bool:
+        """Whether each change that was begun has ended."""
+        return all(naming.when.ended != NOT_YET for naming in self.namings) and all(file.is_settled for file in self.now.values())
 
     def cut(self, place: int, chance: random.Random) -> Cut:
         """What a cut may leave behind a place of the trace."""
@@ -310,12 +320,14 @@ def blocks_of(data: bytes, offset: int) -> Iterator[bytes]:
 
 # A trace
 
+# A client's connection: to which of the servers of a folder, counted from 0, and from which port.
+Connection = tuple[int, int]
+
 
 @dataclass
 class Talk:
-    """A client's connection: its port, what was sent on it, and where in the trace each whole answer was sent."""
+    """What was sent on a client's connection, and where in the trace each whole answer was sent."""
 
-    port: int
     sent: bytes = b""
     answers: list[int] = field(default_factory=list)
 
@@ -337,23 +349,33 @@ def moment_of(call: Call) -> int:
 
 
 class Trace:
-    """What strace told of a server: the device under its folder, its answers, and its forces of logs."""
+    """What strace told of the servers of a folder, one after another: the device under it, their answers, and their forces of logs."""
 
-    def __init__(self, device: Device, calls: Iterable[Call]):
-        self.device = device
-        self.talks: dict[int, Talk] = {}
-        self.log_forces: list[Span] = []
-        self.unknown: list[str] = []
-        self.open: dict[int, File | Talk | Device] = {}
+    def __init__(self, folder: Path):
+        self.device = Device(folder)
+        self.length = self.servers = 0
+        self.talks: dict[Connection, Talk] = {}
         self.logs: dict[int, File] = {}
-        for call in sorted(calls, key=moment_of):
-            made = getattr(self, f"see_{call.name}", None)
-            if made is None:
-                self.unknown.append(call.name)
-            elif call.is_done or call.result is None:
-                made(call)
-            elif isinstance(file := self.forced_by(call), File):
-                file.is_trusted = False
+        self.log_forces: list[Span] = []
+        self.unknown: set[str] = set()
+        self.open: dict[int, File | Talk | Device] = {}
+
+    def read(self, lines: list[str]) -> None:
+        """Takes what was told of one more server."""
+        self.open = {}
+        for call in sorted(calls_of(lines, self.length), key=moment_of):
+            self.see(call)
+        self.length += len(lines)
+        self.servers += 1
+
+    def see(self, call: Call) -> None:
+        made = getattr(self, f"see_{call.name}", None)
+        if made is None:
+            self.unknown.add(call.name)
+        elif call.is_done or call.result is None:
+            made(call)
+        elif isinstance(file := self.forced_by(call), File):
+            file.is_trusted = False
 
     def unforced_writes(self) -> int:
         """How many writes of logs weren't forced at the end."""
@@ -363,27 +385,31 @@ class Trace:
         """What a call forces, if it is one that forces."""
         return self.open.get(call.descriptor) if call.name in ("fsync", "fdatasync") else None
 
-    def answered(self, port: int, number: int) -> int:
+    def answered(self, connection: Connection, number: int) -> int:
         """Where the answer to a request of a connection was sent, counted from 0; at no place where it wasn't."""
-        talk = self.talks.get(port)
+        talk = self.talks.get(connection)
         return talk.answers[number] if talk and number < len(talk.answers) else NOT_YET
 
     def see_openat(self, call: Call) -> None:
         path = call.texts()[0]
         name = self.device.name_in(path)
-        if name is None:
-            if Path(path.decode()) == self.device.folder and call.is_done:
-                self.open[call.result] = self.device
-            return
+        if name is not None:
+            self.open_file(call, name)
+        elif Path(path.decode()) == self.device.folder and call.is_done:
+            self.open[call.result] = self.device
+
+    def open_file(self, call: Call, name: str) -> None:
         when, file = Span(call.began, call.ended), self.device.now.get(name)
         if file is None and "O_CREAT" in call.text:
             file = File()
             self.device.name(when, {name: file})
         elif file is not None and "O_TRUNC" in call.text and file.length:
             file.note(Change(when, cut_to=0))
-        if file is not None and call.is_done:
+        if file is None:
+            return
+        if call.is_done:
             self.open[call.result] = file
-        if file is not None and name.startswith("log-"):
+        if name.startswith("log-"):
             self.logs[id(file)] = file
 
     def see_close(self, call: Call) -> None:
@@ -420,8 +446,7 @@ class Trace:
     def see_accept4(self, call: Call) -> None:
         port = PORT.search(call.text)
         if call.is_done and port:
-            talk = Talk(int(port[1]))
-            self.talks[talk.port] = self.open[call.result] = talk
+            self.talks[self.servers, int(port[1])] = self.open[call.result] = Talk()
 
     def see_sendto(self, call: Call) -> None:
         talk = self.open.get(call.descriptor)
@@ -429,19 +454,27 @@ class Trace:
             talk.send(call.data(), call.began)
 
 
+def strace() -> str:
+    """The path of strace, where it may trace: else a trial is skipped."""
+    path = tool("strace")
+    tried = subprocess.run([path, "-D", "-f", "-q", "-o", os.devnull, "true"], stdin=subprocess.DEVNULL, stderr=subprocess.PIPE, text=True)
+    if tried.returncode or tried.stderr:
+        raise Skipped(f"no right to trace: {tried.stderr.strip()[:80]}")
+    return path
+
+
 class Traced:
     """A kept store at whose calls strace looks from its first on, and of whose calls it has some fail, in strace's words."""
 
-    def __init__(self, program: Path, folder: Path, workers: int, told: Path, fault: str = ""):
-        self.device, self.told = Device(folder), told
+    def __init__(self, program: Path, trace: Trace, workers: int, told: Path, fault: str = ""):
+        self.trace, self.told = trace, told
         calls = ",".join(KNOWN_CALLS + UNKNOWN_CALLS)
         # Its own process is the server's grandchild, so that the server can be killed alone.
         words = ["-D", "-f", "-q", "--seccomp-bpf", "-xx", "-s", str(MOST_BYTES), "-e", f"trace={calls}", "-o", str(told)]
         words += ["-e", f"inject={fault}"] if fault else []
-        words += [str(program), "keep", str(folder), AT_A_PORT_OF_THE_SYSTEM, str(workers)]
-        self.server = Server(Path(tool("strace")), words)
+        words += [str(program), "keep", str(trace.device.folder), AT_A_PORT_OF_THE_SYSTEM, str(workers)]
+        self.server = Server(Path(strace()), words)
 
-    def trace(self) -> Trace:
-        """What was seen, once the server has ended. Its pipes were open until strace had ended, too."""
-        lines = self.told.read_text(encoding="ascii", errors="replace").splitlines()
-        return Trace(self.device, calls_of(lines))
+    def read(self) -> None:
+        """Has the trace take what was seen, once the server has ended. Its pipes were open until strace had ended, too."""
+        self.trace.read(self.told.read_text(encoding="ascii", errors="replace").splitlines())

@@ -71,12 +71,12 @@ def read_request(key: str) -> bytes:
 
 @dataclass(eq=False)
 class Write:
-    """A write: the value, None for a tombstone, what its context counts, and which request of which connection it was."""
+    """A write: the value, None for a tombstone, what its context counts, and which request of which connection it was, if of any."""
 
     key: str
     value: bytes | None
     seen: Counts = field(default_factory=dict)
-    port: int = 0
+    connection: tuple[int, int] | None = None
     number: int = 0
     tag: str | None = None
 
@@ -136,11 +136,11 @@ def words_of_value(value: bytes | None) -> str:
 
 
 class Numbered(Client):
-    """A connection whose requests are counted."""
+    """A connection whose requests are counted, to one of several servers, by its number."""
 
-    def __init__(self, address: tuple[str, int]):
+    def __init__(self, address: tuple[str, int], server: int = 0):
         super().__init__(address)
-        self.port, self.count = self.socket.getsockname()[1], 0
+        self.name, self.count = (server, self.socket.getsockname()[1]), 0
 
     def next_number(self) -> int:
         self.count += 1
@@ -154,6 +154,7 @@ class Writer(threading.Thread):
         super().__init__(name=name)
         self.server, self.known, self.keys, self.count, self.chance = server, known, keys, count, chance
         self.older: dict[str, str] = {}
+        self.server_number = 0
         # Some values have a part of these bytes in them, as of a log.
         self.quoted = b""
         self.faults: list[str] = []
@@ -162,7 +163,7 @@ class Writer(threading.Thread):
 
     def run(self) -> None:
         try:
-            with Numbered(self.server.address) as client:
+            with Numbered(self.server.address, self.server_number) as client:
                 while self.count > 0:
                     if self.chance.random() < 0.1:
                         self.pipe(client)
@@ -184,7 +185,7 @@ class Writer(threading.Thread):
     def sent(self, client: Numbered, key: str, value: bytes | None, context: str | None) -> tuple[Write, bytes]:
         """A write that is sent now, and its request."""
         self.count -= 1
-        one = Write(key, value, counts_of(context), client.port, client.next_number())
+        one = Write(key, value, counts_of(context), client.name, client.next_number())
         self.known[key].writes.append(one)
         method = "DELETE" if value is None else "PUT"
         return one, request(method, f"{BUCKET}/{key}", value, context)
