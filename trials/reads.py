@@ -17,7 +17,7 @@ from pathlib import Path
 import kept
 from server import Server
 from trial import Findings, Result
-from writes import Known, Numbered, Shown, Writer, has, read_all, read_request, shown_in
+from writes import Known, Numbered, Shown, Writer, has, read_all, read_request, shown_in, wait_for
 
 NAME = "reads"
 PROMISES = "What one worker has shown to a reader is there after a kill; of several, what is acknowledged."
@@ -39,6 +39,7 @@ WRITERS, READERS = 3, 3
 OWN_KEYS, SHARED_KEYS = 2, ["shared-1", "shared-2"]
 WITHOUT_END = 10**9
 TOGETHER = 8
+MOST_WRITES_BEFORE = 60
 # In a folder of its own, so that a key's context stays short.
 KILLS_OF_A_FOLDER = 30
 
@@ -93,7 +94,8 @@ class Store:
         (self.folder / kept.SETTINGS).write_bytes(kept.NO_SNAPSHOTS_BY_ITSELF + b"sync %s\n" % sync)
         with Server.keep(self.program, self.folder, workers) as server:
             writers, readers = self.begin(server)
-            time.sleep(self.chance.uniform(0.05, 0.5))
+            wait_for(writers, self.chance.randrange(MOST_WRITES_BEFORE))
+            time.sleep(self.chance.uniform(0, 0.3))
             server.kill()
             for thread in [*writers, *readers]:
                 thread.join()

@@ -55,6 +55,7 @@ NAMES = (
     "folders",
     "copies",
     "full_device",
+    "full_log",
     "failing_calls",
     "failing_logs",
     "refused_snapshots",

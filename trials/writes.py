@@ -8,6 +8,7 @@ from __future__ import annotations
 
 import random
 import threading
+import time
 from collections.abc import Callable, Iterable
 from dataclasses import dataclass, field
 
@@ -228,6 +229,13 @@ class Writer(threading.Thread):
         client.send(b"".join(asked for _, asked in sent))
         for one, _ in sent:
             self.hear(client, one)
+
+
+def wait_for(writers: list[Writer], count: int, seconds: float = 5.0) -> None:
+    """Waits until so many writes were acknowledged, where the machine has much else to do, or for some seconds."""
+    until = time.monotonic() + seconds
+    while sum(writer.acknowledged for writer in writers) < count and time.monotonic() < until:
+        time.sleep(0.005)
 
 
 def read_all(server: Server, keys: Iterable[str], together: int = 50) -> dict[str, Shown]:
