@@ -1,14 +1,15 @@
 """Builds the folders that power cuts leave, at places all over the trace of a kept store's calls, and starts the store from each.
 
 In each life of a store one to three servers have its folder, one after another. Some clients write, alone and together under one key,
-one binds a hook and takes it away, and snapshots are asked for, until the server is stopped or killed. strace tells all calls by which
-it changed its folder and answered its clients. From them `traces.py` builds what a power cut may leave at a place of the trace: what
-was forced, of the rest all, none, some, torn or spoilt; names that were forced, and of the others any. The store has to start from each
-of these, and has to show what was acknowledged before that place: values, siblings, and what is superseded, as contexts say, and the
-hook's binding. Under `sync always` that is each write; under the others each that was acknowledged before a force of the log began that
-has ended, and under `sync everysec` nothing is left to force some seconds behind the last write. Most lives begin with what a cut left
-of the life before, and in some a call of the system fails. Some values are pieces of logs, whole records too. What the calls did in the
-model is compared with what stands in the folder at the end. A folder from which a start goes wrong is kept in `trials/out`.
+one binds a hook and takes it away, and snapshots are asked for, until the server is stopped or killed; some are killed in the midst of
+their start. strace tells all calls by which they changed the folder and answered their clients. From them `traces.py` builds what a
+power cut may leave at a place of the trace: what was forced, of the rest all, none, some, torn or spoilt; names that were forced, and
+of the others any. The store has to start from each of these, and has to show what was acknowledged before that place: values, siblings,
+and what is superseded, as contexts say, and the hook's binding. Under `sync always` that is each write; under the others each that was
+acknowledged before a force of the log began that has ended, and under `sync everysec` nothing is left to force some seconds behind the
+last write. Most lives begin with what a cut left of the life before, and in some a call of the system fails. Some values are pieces of
+logs, whole records too. What the calls did in the model is compared with what stands in the folder at the end. A folder from which a
+start goes wrong is kept in `trials/out`.
 """
 from __future__ import annotations
 
@@ -25,7 +26,7 @@ from pathlib import Path
 import kept
 from load import IN_MEMORY
 from server import NoStart, Server
-from traces import Connection, Cut, Trace, Traced, strace
+from traces import Connection, Cut, Trace, Traced, begin_and_kill, strace
 from trial import Findings, Result
 from unproved import OUT
 from writes import Known, Numbered, Shown, Write, Writer, read_all
@@ -50,6 +51,8 @@ SYNCS = (b"always", b"everysec", b"always", b"never")
 # So many lives from one empty folder to the next: a key's context stays short, so that no start folds it.
 LIVES_OF_A_FOLDER = 4
 SERVERS_OF_A_LIFE = (1, 1, 2, 3)
+# How many starts are killed before they are over, before one that isn't.
+KILLED_STARTS, MOST_START_SECONDS = 0.3, 0.2
 WORKERS = (1, 2, 4)
 WRITERS = 3
 OWN_KEYS, SHARED_KEYS = 3, ["shared-1", "shared-2"]
@@ -168,6 +171,10 @@ def live(found: Findings, program: Path, folder: Path, life: Life, size: Size, c
     servers = chance.choice(SERVERS_OF_A_LIFE)
     for number in range(servers):
         told = folder.parent / f"calls-{folder.name}-{number}"
+        if chance.random() < KILLED_STARTS:
+            begin_and_kill(program, life.trace, told, chance.uniform(0, MOST_START_SECONDS))
+            if not life.trace.device.is_settled:
+                break
         traced = Traced(program, life.trace, chance.choice(WORKERS), told, "" if number else life.how.fault)
         serve(found, traced, life, max(1, size.writes // servers), chance)
         told.unlink()

@@ -12,6 +12,7 @@ import os
 import random
 import re
 import subprocess
+import time
 from collections.abc import Iterable, Iterator, Mapping, Sequence
 from dataclasses import dataclass, field
 from pathlib import Path
@@ -463,18 +464,33 @@ def strace() -> str:
     return path
 
 
+def traced_words(program: Path, folder: Path, workers: int, told: Path, fault: str = "") -> list[str]:
+    """The command by which a kept store runs under strace. Its first process is the server, and strace its grandchild."""
+    calls = ",".join(KNOWN_CALLS + UNKNOWN_CALLS)
+    words = [strace(), "-D", "-f", "-q", "--seccomp-bpf", "-xx", "-s", str(MOST_BYTES), "-e", f"trace={calls}", "-o", str(told)]
+    words += ["-e", f"inject={fault}"] if fault else []
+    return [*words, str(program), "keep", str(folder), AT_A_PORT_OF_THE_SYSTEM, str(workers)]
+
+
 class Traced:
     """A kept store at whose calls strace looks from its first on, and of whose calls it has some fail, in strace's words."""
 
     def __init__(self, program: Path, trace: Trace, workers: int, told: Path, fault: str = ""):
         self.trace, self.told = trace, told
-        calls = ",".join(KNOWN_CALLS + UNKNOWN_CALLS)
-        # Its own process is the server's grandchild, so that the server can be killed alone.
-        words = ["-D", "-f", "-q", "--seccomp-bpf", "-xx", "-s", str(MOST_BYTES), "-e", f"trace={calls}", "-o", str(told)]
-        words += ["-e", f"inject={fault}"] if fault else []
-        words += [str(program), "keep", str(trace.device.folder), AT_A_PORT_OF_THE_SYSTEM, str(workers)]
-        self.server = Server(Path(strace()), words)
+        words = traced_words(program, trace.device.folder, workers, told, fault)
+        self.server = Server(Path(words[0]), words[1:])
 
     def read(self) -> None:
         """Has the trace take what was seen, once the server has ended. Its pipes were open until strace had ended, too."""
         self.trace.read(self.told.read_text(encoding="ascii", errors="replace").splitlines())
+
+
+def begin_and_kill(program: Path, trace: Trace, told: Path, seconds: float) -> None:
+    """Starts a server and kills it so many seconds later, maybe before it listens, and has the trace take what was seen."""
+    words = traced_words(program, trace.device.folder, 1, told)
+    with subprocess.Popen(words, stdin=subprocess.DEVNULL, stdout=subprocess.PIPE, stderr=subprocess.DEVNULL) as server:
+        time.sleep(seconds)
+        server.kill()
+        server.stdout.read()  # until strace has ended, too
+    if told.exists():
+        trace.read(told.read_text(encoding="ascii", errors="replace").splitlines())
