@@ -175,7 +175,6 @@ def run(program: Path, seed: int, size: Size) -> Result:
         for fault in faults:
             if try_fault(found, program, folder, old, fault, chance.random() < 0.5):
                 met.add((fault.file, fault.call))
-    kinds = {(fault.file, fault.call) for fault in faults}
-    if size.faults == ALL:
-        found.say(f"none failed of {sorted(kinds - met)}")
+    lacking = {(fault.file, fault.call) for fault in faults} - met
+    found.hold(size.faults != ALL or not lacking, f"no call failed of {sorted(lacking)}")
     return found.result(f"{len(faults)} faults, {len(met)} kinds of calls failed")

@@ -35,7 +35,7 @@ class Size:
         return list(range(length)) if self.places == ALL else sorted(chance.sample(range(length), self.places))
 
 
-FULL, SHORT = Size(keys=8, places=ALL), Size(keys=60, places=4)
+FULL, SHORT = Size(keys=4, places=ALL), Size(keys=60, places=4)
 
 MARK = b"DVR"
 TAILS = (b"\0" * 4_096, b"DVR2", bytes(range(256)))
