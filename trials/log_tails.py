@@ -10,14 +10,14 @@ from __future__ import annotations
 
 import random
 from collections.abc import Iterator
-from concurrent.futures import ThreadPoolExecutor
 from dataclasses import dataclass
+from functools import partial
 from pathlib import Path
 
 import damages
 import kept
 from server import Server, request
-from trial import ALL, Findings, Result
+from trial import ALL, Findings, Result, side_by_side
 
 NAME = "log_tails"
 PROMISES = "A log that a crash tore is read up to its last whole record, and an older one is refused."
@@ -140,9 +140,7 @@ def try_newest(found: Findings, newest: Newest, size: Size, chance: random.Rando
     places = sorted({0, *newest.ends[-3:-1], len(log) - 1, *size.some(len(log), chance)})
     each = [Damage("whole", log), *(Damage("something behind", log + tail) for tail in TAILS)]
     each += [damage for place in places for damage in damaged(log, place, chance)]
-    with ThreadPoolExecutor(STARTS_AT_ONCE) as pool:
-        for one in [pool.submit(newest.try_start, found, damage, chance.random() < TRIED_AGAIN) for damage in each]:
-            one.result()
+    side_by_side(STARTS_AT_ONCE, [partial(newest.try_start, found, damage, chance.random() < TRIED_AGAIN) for damage in each])
     return len(each)
 
 

@@ -19,15 +19,15 @@ import shutil
 import tempfile
 import threading
 import time
-from concurrent.futures import ThreadPoolExecutor
 from dataclasses import dataclass, field
+from functools import partial
 from pathlib import Path
 
 import kept
 from load import IN_MEMORY
 from server import NoStart, Server
 from traces import Connection, Cut, Trace, Traced, begin_and_kill, strace
-from trial import Findings, Result
+from trial import Findings, Result, side_by_side
 from unproved import OUT
 from writes import Known, Numbered, Shown, Write, Writer, read_all
 
@@ -303,9 +303,7 @@ def try_cuts(found: Findings, program: Path, life: Life, count: int, room: Path,
     """Cuts power at so many places of a life. Gives how many folders that were left differ."""
     places = life.trace.device.places()
     cutting = Cutting(found, program, life, room)
-    with ThreadPoolExecutor(STARTS_AT_ONCE) as pool:
-        for one in [pool.submit(cutting.try_cut, place, chance.random()) for place in some_places(places, count, chance)]:
-            one.result()
+    side_by_side(STARTS_AT_ONCE, [partial(cutting.try_cut, place, chance.random()) for place in some_places(places, count, chance)])
     told = sum(one.tag is not None for known in life.known.values() for one in known.writes)
     figures = f"{told} writes, {len(places)} places, {len(cutting.tried)} folders, {cutting.torn} of them with a torn log"
     found.say(f"{life.trace.servers} servers, {life.how}: {figures}")
