@@ -50,6 +50,7 @@ FULL = Size(starts=3, copies=6, keys=20_000, at_vnodes=(1, 3))
 SHORT = Size(starts=2, copies=3, keys=1_000, at_vnodes=(1,))
 
 PAGE = TOP / "docs" / "OPERATIONS.md"
+TAKES_THE_NUMBER, SEALS_THE_NUMBER = "head -n 1", "cut -c 1-40"
 MAKES_A_COPY, PUTS_IT_BACK, LOOKS_AT_IT, RAISES_THE_NUMBER = "-cf copy.tar", "-xf copy.tar", "echo stop |", "number $N"
 SUMS_IT, COMPARES_THE_SUM = "> copy.tar.sha256", "sha256sum -c"
 TAKEN = (0, 1)  # 1 where a file was replaced while it was read
@@ -403,7 +404,7 @@ class Life:
         self.try_copy(Copy(self.folder, self.known, before, behind, False), "in its place", None)
 
     def try_looks(self) -> None:
-        """The line of the page that looks at a copy, an archive that was cut, and a copy that lacks a file."""
+        """The line of the page that looks at a copy, an archive that was cut, and one that lacks a file."""
         records = kept.loaded_from(self.program, self.folder)
         ran = run_line(line_of_page(PAGE, LOOKS_AT_IT), self.room, FOLDER=self.folder, dvvstore=self.program)
         is_told = ran.returncode == 0 and ran.stdout.startswith(f"loaded {records}\n") and ran.stdout.endswith("audit ok\n")
@@ -416,8 +417,18 @@ class Life:
             ran = run_line(line_of_page(PAGE, COMPARES_THE_SUM), self.room)
             self.found.hold(ran.returncode == 1, f"an archive that was cut is told by its sum: {ran}")
         with kept.copied(self.folder) as lacking:
-            max(lacking.glob("vnode-*.records"), key=lambda path: path.stat().st_size).unlink()
-            self.found.say(f"a copy that lacks a file: {kept.loaded_from(self.program, lacking)} of {records} records, and no word")
+            self.try_lacking(lacking, records)
+
+    def try_lacking(self, folder: Path, records: int | None) -> None:
+        """A copy that lacks the file of a vnode is refused by its name, and the lines of the page begin without it."""
+        lost = max(folder.glob("vnode-*.records"), key=lambda path: path.stat().st_size)
+        lost.unlink()
+        refused = kept.refusal(self.program, folder)
+        self.found.hold(refused == kept.Refusal(1, f"refused {lost.name}: missing\n"), f"a copy that lacks a file: {refused}")
+        self.page(TAKES_THE_NUMBER, FOLDER=folder)
+        self.page(SEALS_THE_NUMBER, FOLDER=folder)
+        left = kept.loaded_from(self.program, folder)
+        self.found.hold(left is not None and left < (records or 0), f"a start without it: {left} of {records} records")
 
 
 def try_store(found: Findings, program: Path, chance: random.Random, size: Size, at_vnodes: int) -> Life:

@@ -429,6 +429,7 @@ def try_modes(life: Life) -> None:
     """Whose the folder is that the page's line makes, and the files that the service makes in it."""
     folder = life.folder.parent / "own"
     ran = page(MAKES_A_FOLDER, life.folder.parent, folder)
+    try_own_modes(life)
     with Service(life.program, folder) as service:
         with service.client() as client:
             client.must(204, "PUT", "/buckets/b/keys/own", b"x")
@@ -437,6 +438,18 @@ def try_modes(life: Life) -> None:
         service.end(END_SECONDS)
     modes = {path.name: oct(mode_of(path)) for path in folder.iterdir() if mode_of(path) != OWNERS_FILE}
     life.found.hold(ran.returncode == 0 and mode_of(folder) == OWNERS_FOLDER and not modes, f"it is its owner's alone: {ran} {modes}")
+
+
+def try_own_modes(life: Life) -> None:
+    """Whose the folder is that the program makes, and its files, whatever others may have by the mask of its process."""
+    folder = life.folder.parent / "around" / "made"
+    with Server.keep(life.program, folder, before=lambda: os.umask(0)) as server:
+        kept.put(server, "own", b"x")
+        server.snapshot()
+        modes = {path.name: oct(mode_of(path)) for path in folder.iterdir() if mode_of(path) != OWNERS_FILE}
+        server.stop_in_order()
+    behind = {path.name: oct(mode_of(path)) for path in folder.iterdir() if mode_of(path) != OWNERS_FILE}
+    life.found.hold(mode_of(folder) == OWNERS_FOLDER and not modes and not behind, f"what the program makes is its owner's alone: {modes} {behind}")
 
 
 def try_unit(found: Findings, room: Path) -> bool:

@@ -4,6 +4,7 @@
     wrong-bodies/try.py CRATE..            tries all wrong bodies of these crates, those of their must-fail/ too
     wrong-bodies/try.py --all              tries those of every crate
     wrong-bodies/try.py --only WORD ..     of these crates only the bodies whose names hold this word
+    wrong-bodies/try.py --new ..           of these crates only the bodies that name no goal
     wrong-bodies/try.py --name ..          and writes into each body that names no goal the one at which it was refused
     wrong-bodies/try.py --lanes N ..       N crates side by side, each of which takes 1 to 4 GB
     wrong-bodies/try.py --texts [CRATE..]  proves nothing: says which texts no longer stand once in the file that they name
@@ -450,6 +451,7 @@ def main() -> int:
     parser.add_argument("--all", action="store_true")
     parser.add_argument("--texts", action="store_true")
     parser.add_argument("--name", action="store_true")
+    parser.add_argument("--new", action="store_true")
     parser.add_argument("--only", default="", metavar="WORD")
     parser.add_argument("--lanes", type=int, default=1, metavar="N")
     given = parser.parse_args()
@@ -461,7 +463,7 @@ def main() -> int:
     crates = given.crates or every
     if given.texts:
         return 0 if tell_texts(crates) else 1
-    wanted = {crate: [body for body in bodies_of(crate) if given.only in body.name] for crate in crates}
+    wanted = {crate: [body for body in bodies_of(crate) if given.only in body.name and not (given.new and body.goals)] for crate in crates}
 
     def is_fine(crate: str) -> bool:
         try:

@@ -1,6 +1,8 @@
 pub mod RowSteps
 pub mod Noted
+pub mod Renewed
 pub mod Meets
+pub mod NoPairs
 pub mod Waits
 pub mod Words
 pub mod SameReads

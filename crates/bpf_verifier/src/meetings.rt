@@ -1,17 +1,22 @@
 //! Pairs that wait for the slots to which jumps lead.
 
-ghost use Rattle.std.specs.Prelude.{◌≡◌, ◌<◌, ◌≤◌, ◌+◌, ℕ, Some, IfOk, OnErr, List, Option, slice_get, vec_len};
+ghost use Rattle.std.specs.Prelude.{◌≡◌, ◌<◌, ◌≤◌, ◌+◌, ℕ, Some, IfOk, OnErr, List, Option, length, slice_get, vec_len};
 ghost use Rattle.bpf_copies.specs.Names.{goes_on};
+ghost use Rattle.bpf_semantics.specs.declared.profile.Profile.TheVariants.{Second};
+ghost use Rattle.bpf_verifier.specs.Candidates.{program_in};
 ghost use Rattle.bpf_verifier.specs.Program.{Program};
 ghost use Rattle.bpf_verifier.specs.Registers.{Row};
 ghost use Rattle.bpf_verifier.specs.PairSteps.{met, pairs_by_jump, pairs_by_next, pairs_come, pairs_behind, pairs_at};
+ghost use Rattle.bpf_verifier.specs.Table.{table};
 ghost use Rattle.bpf_verifier.specs.Meetings.{pairs_of, brought_at, Meets};
 
+use crate::candidate::Candidate;
 use crate::pair::Pairs;
 use crate::pairs::{are_none, no_pairs, pairs_met};
 use bpf_copies::place_of;
 use bpf_image::form::target_of;
 use bpf_insn::Insn;
+use bpf_ranges::Profile;
 use std::alloc::{AllocError, Global};
 
 /// What jumps have brought of pairs to a slot.
@@ -23,19 +28,6 @@ pub enum Brought {
     NoPair,
     /// These are known on all ways so far.
     Known(Box<Pairs>),
-}
-
-impl Brought {
-    /// The pairs, if a jump leads there.
-    fn pairs(&self) -> Option<Pairs>
-        ensures { result ≡ pairs_of self.now }
-    {
-        match self {
-            Brought::Nothing => None,
-            Brought::NoPair => Some(no_pairs()),
-            Brought::Known(pairs) => Some(**pairs),
-        }
-    }
 }
 
 /// Joins the pairs before a jump into those that wait where it leads.
@@ -82,13 +74,14 @@ fn goes_on(insn: Insn) -> bool
 }
 
 /// The pairs at the next slot: those behind an instruction that goes on there, and those that wait for it.
-fn go_on(insn: Insn, next: Pairs, waits: Option<Pairs>) -> Pairs
-    ensures { result ≡ pairs_come (pairs_by_next insn next waits) }
+fn go_on(insn: Insn, next: Pairs, waits: &Brought) -> Pairs
+    ensures { result ≡ pairs_come (pairs_by_next insn next (pairs_of waits.now)) }
 {
     let goes = goes_on(insn);
     match waits {
-        Some(old) => { if goes { pairs_met(old, next) } else { old } }
-        None => { if goes { next } else { no_pairs() } }
+        Brought::NoPair => no_pairs(),
+        Brought::Known(old) => { if goes { pairs_met(**old, next) } else { **old } }
+        Brought::Nothing => { if goes { next } else { no_pairs() } }
     }
 }
 
@@ -127,6 +120,28 @@ impl Meetings {
         ensures waiting { OnErr result ((k : ℕ) → brought_at self.new.waiting.items k ≡ brought_at self.old.waiting.items k) }
     {
         join_target(self.alloc, &mut self.waiting, target_of(at, insn), pairs)?;
-        Ok(go_on(insn, next, self.waiting[at + 1].pairs()))
+        Ok(go_on(insn, next, &self.waiting[at + 1]))
+    }
+
+    /// The same of a slot of a program, by its table, where pairs are known by the second profile alone.
+    pub fn go_over(
+        &mut self,
+        program: &Candidate,
+        at: usize,
+        pairs: Pairs,
+        next: Pairs,
+    ) -> Result<Pairs, AllocError>
+        requires within { at < length program.now.image.code.items }
+        requires pairs { pairs ≡ pairs_at (program_in program.now) (table (program_in program.now)) at }
+        requires next { next ≡ pairs_behind (program_in program.now) (table (program_in program.now)) at pairs }
+        requires old { program.now.image.profile ≡ Second → Meets (program_in program.now) (table (program_in program.now)) (length program.now.image.code.items + 1) at self.old }
+        ensures here { IfOk result (λ here. here ≡ pairs_at (program_in program.now) (table (program_in program.now)) (at + 1)) }
+        ensures follows { IfOk result (λ _. program.now.image.profile ≡ Second → Meets (program_in program.now) (table (program_in program.now)) (length program.now.image.code.items + 1) (at + 1) self.new) }
+        ensures waiting { OnErr result ((k : ℕ) → brought_at self.new.waiting.items k ≡ brought_at self.old.waiting.items k) }
+    {
+        match program.image.profile {
+            Profile::First => Ok(no_pairs()),
+            Profile::Second => self.meet(at, program.image.code[at], pairs, next),
+        }
     }
 }

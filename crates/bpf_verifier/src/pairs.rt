@@ -472,17 +472,29 @@ fn tell_pair(pair: Option<Pair>, row: &mut [Kind])
     }
 }
 
+/// Narrows the registers of each pair.
+fn tell_each_pair(pairs: Pairs, row: &mut [Kind])
+    requires { AreKinds row.old }
+    ensures table { row.new ≡ told_pairs pairs row.old }
+    ensures kinds { AreKinds row.new }
+{
+    tell_pair(pairs.first, row);
+    tell_pair(pairs.second, row);
+    tell_pair(pairs.third, row);
+    tell_pair(pairs.fourth, row);
+}
+
 /// Narrows the registers of the pairs that are known where a condition is tested, be the jump taken or not, by the second profile.
+#[inline(always)]
 fn tell_pairs(insn: Insn, profile: Profile, pairs: Pairs, row: &mut [Kind])
     requires { AreKinds row.old }
     ensures table { row.new ≡ paired insn profile pairs row.old }
     ensures kinds { AreKinds row.new }
 {
     if let (Insn::JumpIf { .. }, Profile::Second) = (insn, profile) {
-        tell_pair(pairs.first, row);
-        tell_pair(pairs.second, row);
-        tell_pair(pairs.third, row);
-        tell_pair(pairs.fourth, row);
+        if !are_none(pairs) {
+            tell_each_pair(pairs, row);
+        }
     }
 }
 

@@ -1,6 +1,6 @@
 //! Which sums are known at a slot, and what they tell of their numbers; and the names of the registers there, by the second profile.
 
-ghost use Rattle.std.specs.Prelude.{◌≡◌, ◌<◌, ◌+◌, ◌||◌, true, false, ℕ, Bool, if◌then◌else◌, IfOk, OnErr, Some, List, slice_get, length, vec_len};
+ghost use Rattle.std.specs.Prelude.{◌≡◌, ◌<◌, ◌+◌, ◌||◌, true, false, ℕ, Bool, if◌then◌else◌, IfOk, OnErr, Some, List, slice_get, length, map, vec_len};
 ghost use Rattle.bpf_insn.specs.declared.Insn.{Insn};
 ghost use Rattle.bpf_alu.specs.declared.Cond.TheVariants.{LessEqual};
 ghost use Rattle.bpf_alu.specs.declared.Width.TheVariants.{W64};
@@ -14,7 +14,7 @@ ghost use Rattle.bpf_verifier.specs.Naming.{bounds_at};
 ghost use Rattle.bpf_verifier.specs.Table.{table, AreKinds};
 ghost use Rattle.bpf_copies.specs.Led.{is_slot};
 ghost use Rattle.bpf_copies.specs.Courses.{Follows, held_at};
-ghost use Rattle.bpf_verifier.specs.Sums.{no_sums, sum_in, is_operand, has_register, without, copied, is_copy, added, sum_of_op, kept, renewed, sums_after, least, most, at_most, register_at_most, operand_at_most, told_by, told_one, told_each, told_all, told};
+ghost use Rattle.bpf_verifier.specs.Sums.{no_sums, sum_in, is_operand, has_register, without, copied, is_copy, added, sum_of_op, renewed, sums_after, least, most, at_most, register_at_most, operand_at_most, told_by, told_one, told_each, told_all, told};
 ghost use Rattle.bpf_verifier.specs.Known.{AreSums};
 
 use crate::candidate::Candidate;
@@ -45,22 +45,6 @@ fn has_register(register: Register, sum: Sum) -> bool
     sum.of.number() == register.number()
         || sum.left.number() == register.number()
         || is_operand(register, sum.right)
-}
-
-/// A sum, as far as it is known after a write to a register.
-fn without(register: Register, sum: Option<Sum>) -> Option<Sum>
-    ensures { result ≡ without register sum }
-{
-    match sum {
-        Some(sum) => {
-            if has_register(register, sum) {
-                None
-            } else {
-                Some(sum)
-            }
-        }
-        None => None,
-    }
 }
 
 /// The sum that a move of 64 bits gives its register: what is copied, and zero.
@@ -136,39 +120,38 @@ pub fn sum_in(sums: &KnownSums, register: Register) -> Option<Sum>
     sums[register.number() as usize]
 }
 
-/// What a register is known to hold after a write to `dst`, which then holds a new sum, if one is known.
-fn kept(dst: Register, new: Option<Sum>, sums: &KnownSums, register: Register) -> Option<Sum>
-    ensures { result ≡ kept dst new sums.now register }
+/// Forgets a sum that has a register which is written.
+#[inline(always)]
+fn forget(register: Register, sum: &mut Option<Sum>)
+    ensures { sum.new ≡ without register sum.old }
 {
-    if register.number() == dst.number() {
-        new
-    } else {
-        without(dst, sum_in(sums, register))
+    if let Some(known) = sum {
+        if has_register(register, *known) {
+            *sum = None;
+        }
     }
 }
 
-/// The sums that are known after a write to `dst`, which then holds a new sum, if one is known.
-fn renewed(dst: Register, new: Option<Sum>, sums: &KnownSums) -> KnownSums
-    ensures { result ≡ renewed dst new sums.now }
+/// Forgets all sums that have a register which is written.
+fn forget_each(register: Register, sums: &mut KnownSums)
+    ensures { sums.new ≡ map (without register) sums.old }
 {
-    [
-        kept(dst, new, sums, Register::R0),
-        kept(dst, new, sums, Register::R1),
-        kept(dst, new, sums, Register::R2),
-        kept(dst, new, sums, Register::R3),
-        kept(dst, new, sums, Register::R4),
-        kept(dst, new, sums, Register::R5),
-        kept(dst, new, sums, Register::R6),
-        kept(dst, new, sums, Register::R7),
-        kept(dst, new, sums, Register::R8),
-        kept(dst, new, sums, Register::R9),
-        kept(dst, new, sums, Register::R10),
-    ]
+    for sum in sums.iter_mut() {
+        forget(register, sum);
+    }
 }
 
-/// The sums that are known after an instruction, on its way to the next slot: a wide one goes past its second slot.
-fn sums_after(insn: Insn, sums: &KnownSums) -> KnownSums
-    ensures { result ≡ sums_after insn sums.now }
+/// Goes over a write to `dst`, which then holds a new sum, if one is known.
+fn renew(dst: Register, new: Option<Sum>, sums: &mut KnownSums)
+    ensures { sums.new ≡ renewed dst new sums.old }
+{
+    forget_each(dst, sums);
+    sums[dst.number() as usize] = new;
+}
+
+/// Goes over an instruction, on its way to the next slot: a wide one goes past its second slot.
+fn sum_after(insn: Insn, sums: &mut KnownSums)
+    ensures { sums.new ≡ sums_after insn sums.old }
 {
     match insn {
         Insn::Alu {
@@ -176,23 +159,26 @@ fn sums_after(insn: Insn, sums: &KnownSums) -> KnownSums
             width,
             dst,
             src,
-        } => renewed(dst, sum_of_op(op, width, dst, src, sum_in(sums, dst)), sums),
-        Insn::Load { dst, .. } | Insn::Swap { dst, .. } | Insn::Wide { dst, .. } => {
-            renewed(dst, None, sums)
+        } => {
+            let new = sum_of_op(op, width, dst, src, sum_in(sums, dst));
+            renew(dst, new, sums);
         }
-        Insn::Store { .. } | Insn::JumpIf { .. } | Insn::Tail => *sums,
-        Insn::Call { .. } | Insn::Jump { .. } | Insn::Exit => NO_SUMS,
+        Insn::Load { dst, .. } | Insn::Swap { dst, .. } | Insn::Wide { dst, .. } => {
+            renew(dst, None, sums);
+        }
+        Insn::Store { .. } | Insn::JumpIf { .. } | Insn::Tail => {},
+        Insn::Call { .. } | Insn::Jump { .. } | Insn::Exit => *sums = NO_SUMS,
     }
 }
 
-/// The sums that are known at the next slot: none where a jump leads there.
-fn sums_on(is_led: bool, insn: Insn, sums: &KnownSums) -> KnownSums
-    ensures { result ≡ if is_led then no_sums else sums_after insn sums.now }
+/// Goes over an instruction to the next slot: no sum is known where a jump leads there.
+fn sum_on(is_led: bool, insn: Insn, sums: &mut KnownSums)
+    ensures { sums.new ≡ if is_led then no_sums else sums_after insn sums.old }
 {
     if is_led {
-        NO_SUMS
+        *sums = NO_SUMS;
     } else {
-        sums_after(insn, sums)
+        sum_after(insn, sums);
     }
 }
 
@@ -223,8 +209,8 @@ pub struct Sums {
     pub names: Course,
 }
 
-/// For how many slots names may wait: by the first profile none are known.
-fn named_slots(profile: Profile, slots: usize) -> usize
+/// For how many slots names and pairs may wait: by the first profile none are known.
+pub fn named_slots(profile: Profile, slots: usize) -> usize
     ensures { profile ≡ Second → result ≡ slots }
 {
     match profile {
@@ -286,7 +272,7 @@ impl Sums {
         name_on(&mut self.names, program, at, known)?;
         let insn = program.image.code[at];
         note(&mut self.led, target_of(at, insn));
-        self.held = sums_on(self.led[at + 1], insn, &self.held);
+        sum_on(self.led[at + 1], insn, &mut self.held);
         Ok(())
     }
 }

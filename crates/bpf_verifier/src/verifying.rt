@@ -29,7 +29,7 @@ use crate::pairs::{narrow, no_pairs, pairs_over, pairs_told, tell_on};
 use crate::rule::{KindRule, Refused, Rule};
 use crate::rules::advance;
 use crate::slots::lower_slot;
-use crate::sums::Sums;
+use crate::sums::{Sums, named_slots};
 use crate::verified::Verified;
 use crate::waiting::Waiting;
 use bpf_helpers::Sigs;
@@ -171,7 +171,8 @@ fn check_rows<const N: usize>(alloc: Global, program: &Candidate) -> Result<Vec<
     let Ok(mut sums) = Sums::new(alloc, program.image.profile, slots + 1) else {
         return Err(no_memory());
     };
-    let Ok(mut meetings) = Meetings::none_yet(alloc, slots + 1) else {
+    let Ok(mut meetings) = Meetings::none_yet(alloc, named_slots(program.image.profile, slots + 1))
+    else {
         return Err(no_memory());
     };
     let Ok(mut lows) = vec![in alloc; tail(); slots] else {
@@ -183,7 +184,6 @@ fn check_rows<const N: usize>(alloc: Global, program: &Candidate) -> Result<Vec<
     let mut pairs = no_pairs();
     for at in 0..slots {
         lows[at] = lower_slot(program, at, &here);
-        let insn = program.image.code[at];
         let known = bounds_here(program, at, &here);
         let mut next = pairs;
         visit(
@@ -192,7 +192,7 @@ fn check_rows<const N: usize>(alloc: Global, program: &Candidate) -> Result<Vec<
         let Ok(()) = sums.advance(program, at, known) else {
             return Err(no_memory());
         };
-        let Ok(met) = meetings.meet(at, insn, pairs, next) else {
+        let Ok(met) = meetings.go_over(program, at, pairs, next) else {
             return Err(no_memory());
         };
         pairs = met;
@@ -236,7 +236,8 @@ fn known_before<const N: usize>(
     let Ok(mut sums) = Sums::new(alloc, program.image.profile, slots + 1) else {
         return Err(no_memory());
     };
-    let Ok(mut meetings) = Meetings::none_yet(alloc, slots + 1) else {
+    let Ok(mut meetings) = Meetings::none_yet(alloc, named_slots(program.image.profile, slots + 1))
+    else {
         return Err(no_memory());
     };
     let first: [Kind; N] = entry(program);
@@ -244,7 +245,6 @@ fn known_before<const N: usize>(
     let mut taken = first;
     let mut pairs = no_pairs();
     for at in 0..slot {
-        let insn = program.image.code[at];
         let known = bounds_here(program, at, &here);
         let mut next = pairs;
         visit(
@@ -253,7 +253,7 @@ fn known_before<const N: usize>(
         let Ok(()) = sums.advance(program, at, known) else {
             return Err(no_memory());
         };
-        let Ok(met) = meetings.meet(at, insn, pairs, next) else {
+        let Ok(met) = meetings.go_over(program, at, pairs, next) else {
             return Err(no_memory());
         };
         pairs = met;

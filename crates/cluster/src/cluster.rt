@@ -77,7 +77,7 @@ impl<B: Room> Cluster<B> {
     /// it and asks for the same vnode again waits forever.
     pub fn lock<'a, R: Wait>(&'a self, rt: &R, vnode: usize) -> VnodeGuard<'a, B>
         requires { vnode < self.now.vnodes }
-        ensures { result ≡ self.now.first + vnode }
+        ensures { result.id ≡ self.now.first + vnode }
     {
         VnodeGuard::new(
             self.locked(rt, vnode),

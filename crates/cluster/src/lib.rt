@@ -6,4 +6,4 @@ mod guard;
 
 pub use cluster::Cluster;
 pub use cluster_vnode::{CallFault, GatherFault, Pass, Receipt, Room, hand_outs_are_a_front};
-pub use guard::VnodeGuard;
+pub use guard::{CallAndRead, VnodeGuard};

@@ -1,7 +1,8 @@
 -- What a call on the vnodes of a cluster, through a pass, leaves.
-use Rattle.std.specs.Prelude.{◌≡◌, ◌<◌, ◌≤◌, ◌+◌, ◌⊎◌, ℕ, Bool, Result, Ok, Err}
+use Rattle.std.specs.Prelude.{◌≡◌, ◌≢◌, ◌<◌, ◌≤◌, ◌+◌, ◌⊎◌, ℕ, Bool, List, Result, Ok, Err, IfOk}
 use Rattle.std.specs.Global.{Vec}
 use Rattle.dvv.specs.declared.Dot as dvv
+use Rattle.key_state.specs.declared.content.Content.{Content}
 use Rattle.key_state.specs.declared.content.Key.{Key}
 use Rattle.key_state.specs.State.{State}
 use Rattle.vnode.specs.declared.fault.VnodeFault.{VnodeFault}
@@ -24,6 +25,7 @@ use Rattle.cluster_stamps.specs.declared.view.View.{View}
 use Rattle.cluster_vnode.specs.Calls.{IsNews, IsFault, AreKeysOf, outcome_ok}
 use Rattle.cluster_vnode.specs.declared.fault.CallFault.{CallFault}
 use Rattle.cluster_vnode.specs.declared.fault.CallFault.TheVariants as fault
+use Rattle.cluster_vnode.specs.declared.fault.Receipt.{Receipt}
 
 -- what contracts see of the vnodes that a pass reaches: how many there are, what the pass knows, and how many calls failed
 pub record Reach : Type 0 where
@@ -59,6 +61,39 @@ abbrev pub IsRead : Size → View → View → ℕ → Request → Result Answer
 IsRead size old new i asked (Ok answer) = (answer.from ≡ size.first + i) × IsReplied size old new i asked answer.at (reply.State answer.state)
 IsRead size old new i asked (Err why) = IsNoReply size old new i asked why
 
+-- by cases on why a call was refused
+abbrev pub MatchCall : CallFault → Type 0 → Type 0 → (VnodeFault → Type 0) → Type 0
+MatchCall fault.PassSpent spent missing refused = spent
+MatchCall fault.Missing spent missing refused = missing
+MatchCall (fault.Refused why) spent missing refused = refused why
+
+-- what the call of a read came to: a state, or a refusal that a read can have
+abbrev pub IsReadBack : Result (Reply × Receipt) CallFault → Type 0
+IsReadBack (Ok (reply.State state, receipt)) = Unit {0}
+IsReadBack (Ok (reply.Dot dot, receipt)) = ⊥
+IsReadBack (Ok (reply.Changed changed, receipt)) = ⊥
+IsReadBack (Ok (reply.Summary summary, receipt)) = ⊥
+IsReadBack (Ok (reply.Built changed whole, receipt)) = ⊥
+IsReadBack (Ok (reply.Done, receipt)) = ⊥
+IsReadBack (Err why) = why ≢ fault.Missing
+
+-- the answer that is made of it
+abbrev pub IsReadAs : Result (Reply × Receipt) CallFault → Result Answer PeerFault → Type 0
+IsReadAs (Ok (reply.State state, receipt)) back = back ≡ Ok record { from = receipt.vnode; at = receipt.place; state = state }
+IsReadAs (Ok (reply.Dot dot, receipt)) back = ⊥
+IsReadAs (Ok (reply.Changed changed, receipt)) back = ⊥
+IsReadAs (Ok (reply.Summary summary, receipt)) back = ⊥
+IsReadAs (Ok (reply.Built changed whole, receipt)) back = ⊥
+IsReadAs (Ok (reply.Done, receipt)) back = ⊥
+IsReadAs (Err why) back = MatchCall why (back ≡ Err Lost) ⊥ (λ refusal. back ≡ Err (Refused refusal))
+
+-- what a put and the read behind it leave: where the put was stored, the read's entry is the next behind it, and the pass was told of both, the put first
+abbrev pub IsPutAndRead : Size → View → View → ℕ → Key → List dvv.Dot → Content → Result (dvv.Dot × Result Answer PeerFault) PeerFault → Type 0
+IsPutAndRead size old new i key seen content (Ok stored) =
+    (middle : View) × (place : ℕ) × IsReplied size old middle i (request.Put key seen content) place (reply.Dot stored.0) × IsRead size middle new i (request.Read key) stored.1
+    × IfOk stored.1 (λ answer. answer.at ≡ place + 1)
+IsPutAndRead size old new i key seen content (Err why) = IsNoReply size old new i (request.Put key seen content) why
+
 -- what a summary leaves
 abbrev pub IsSummary : Size → View → View → ℕ → Request → Result SummaryAnswer PeerFault → Type 0
 IsSummary size old new i asked (Ok answer) = (answer.from ≡ size.first + i) × IsReplied size old new i asked answer.at (reply.Summary answer.summary)
@@ -92,8 +127,6 @@ pub record PassStep (size : Size) (old : View) (failures : ℕ) (call : Call) (n
   pub origin_is : origin_after ≡ origin
   pub size_is : size_after ≡ size
 
--- by cases on why a call was refused
-abbrev pub MatchCall : CallFault → Type 0 → Type 0 → (VnodeFault → Type 0) → Type 0
-MatchCall fault.PassSpent spent missing refused = spent
-MatchCall fault.Missing spent missing refused = missing
-MatchCall (fault.Refused why) spent missing refused = refused why
+-- the same of what contracts see before and behind it
+abbrev pub ReachStep : Reach → Call → Reach → Type 0
+ReachStep old call new = PassStep old.size old.pass old.failures call new.pass new.failures 0 0 new.size

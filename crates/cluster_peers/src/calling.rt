@@ -2,23 +2,24 @@
 
 ghost use Rattle.std.specs.Prelude.{◌≡◌, ◌≢◌, Ok, Err, ◌^◌, ◌-◌, ◌+◌, min, if◌then◌else◌};
 ghost use Rattle.cluster_stamps.specs.declared.request.Request.TheVariants as request;
+ghost use Rattle.peers.specs.Calls.{Made, puts_and_reads};
 ghost use Rattle.peers.specs.declared.fault.PeerFault.TheVariants.{Lost, Refused};
 ghost use Rattle.peers.specs.declared.peers.PartAnswer.TheVariants.{Missing};
 ghost use Rattle.cluster_vnode.specs.declared.fault.CallFault.{CallFault};
-ghost use Rattle.cluster_peers.specs.Peering.{IsPut, IsMerge, IsRead, IsSummary, IsPart, IsKeys, MatchCall};
+ghost use Rattle.cluster_peers.specs.Peering.{IsPut, IsPutAndRead, IsMerge, IsRead, IsReadBack, IsReadAs, IsSummary, IsPart, IsKeys, MatchCall, ReachStep};
 
-use cluster::{CallFault, Cluster, Pass, Room};
+use cluster::{CallAndRead, CallFault, Cluster, Pass, Receipt, Room};
 use cluster_stamps::{Prepared, Reply};
 use dvv::{Clock, Dot};
 use key_state::{Content, Key, KeyState, Part};
-use peers::{Answer, PartAnswer, PeerFault, Peers, SummaryAnswer};
+use peers::{Answer, PartAnswer, PeerFault, Peers, SummaryAnswer, fails_within};
 use std::alloc::Global;
 use std::marker::Model;
 use std::sync::Wait;
 use vnode::VnodeFault;
 
-/// The vnodes of a cluster, by a pass of its own. A call on a vnode is one call of the cluster, under that vnode's lock. A call on an index
-/// that has no vnode is lost, and so is one where the pass has drawn all its stamps.
+/// The vnodes of a cluster, by a pass of its own. A call on a vnode is one call of the cluster, under that vnode's lock; a put and the read
+/// behind it are made under one. A call on an index that has no vnode is lost, and so is one where the pass has drawn all its stamps.
 #[derive(Drop)]
 pub struct ClusterPeers<'a, B: Room, R: Wait> {
     alloc: Global,
@@ -45,6 +46,24 @@ fn no_reply(fault: CallFault) -> PeerFault
         CallFault::PassSpent => PeerFault::Lost,
         CallFault::Missing => unreachable!(),
         CallFault::Refused(fault) => PeerFault::Refused(fault),
+    }
+}
+
+// What a read came to.
+fn read_answer(back: Result<(Reply, Receipt), CallFault>) -> Result<Answer, PeerFault>
+    requires { IsReadBack back }
+    ensures { IsReadAs back result }
+{
+    match back {
+        Ok((reply, receipt)) => match reply {
+            Reply::State(state) => Ok(Answer {
+                from: receipt.vnode,
+                at: receipt.place,
+                state,
+            }),
+            _ => unreachable!(),
+        },
+        Err(fault) => Err(no_reply(fault)),
     }
 }
 
@@ -116,6 +135,39 @@ impl<B: Room, R: Wait> ClusterPeers<'_, B, R> {
         }
     }
 
+    // Puts at a vnode, and where that was stored reads there behind it, under one lock: the read's entry is the next behind the put's.
+    fn put_and_read(
+        &mut self,
+        i: usize,
+        key: &Key,
+        seen: &Clock,
+        content: &Content,
+    ) -> Result<(Dot, Result<Answer, PeerFault>), PeerFault>
+        ensures both { IsPutAndRead self.old.size self.old.pass self.new.pass i key.now seen.now content.now result }
+        ensures same { (self.new.size ≡ self.old.size) × (self.new.failures ≡ self.old.failures) }
+    {
+        if i >= self.cluster.count() {
+            return Err(PeerFault::Lost);
+        }
+        let Ok(put) = Prepared::put(self.alloc, key, seen, content) else {
+            return Err(PeerFault::Refused(VnodeFault::NoMemory));
+        };
+        let back = self
+            .cluster
+            .lock(self.rt, i)
+            .call_and_read(&mut self.pass, put, key);
+        match back {
+            Ok(
+                CallAndRead {
+                    call: (Reply::Dot(dot), _),
+                    read,
+                },
+            ) => Ok((dot, read_answer(read))),
+            Ok(_) => unreachable!(),
+            Err(fault) => Err(no_reply(fault)),
+        }
+    }
+
     // Merges at a vnode.
     fn merge(
         &mut self,
@@ -152,20 +204,10 @@ impl<B: Room, R: Wait> ClusterPeers<'_, B, R> {
         if i >= self.cluster.count() {
             return Err(PeerFault::Lost);
         }
-        match self
-            .cluster
-            .call_prepared(self.rt, &mut self.pass, i, Prepared::Read(key))
-        {
-            Ok((reply, receipt)) => match reply {
-                Reply::State(state) => Ok(Answer {
-                    from: receipt.vnode,
-                    at: receipt.place,
-                    state,
-                }),
-                _ => unreachable!(),
-            },
-            Err(fault) => Err(no_reply(fault)),
-        }
+        read_answer(
+            self.cluster
+                .call_prepared(self.rt, &mut self.pass, i, Prepared::Read(key)),
+        )
     }
 
     // Reads the summary of what a vnode holds.
@@ -258,6 +300,21 @@ impl<B: Room, R: Wait> Peers for ClusterPeers<'_, B, R> {
     ) -> Result<Dot, PeerFault> {
         let back = self.put(i, key, seen, content);
         self.count(back.is_err());
+        back
+    }
+
+    fn put_and_read_at(
+        &mut self,
+        i: usize,
+        key: &Key,
+        seen: &Clock,
+        content: &Content,
+    ) -> Result<(Dot, Result<Answer, PeerFault>), PeerFault>
+        ensures made { Made ReachStep self.old (puts_and_reads i key.now seen.now content.now result) self.new }
+        ensures both { IsPutAndRead self.old.size self.old.pass self.new.pass i key.now seen.now content.now result }
+    {
+        let back = self.put_and_read(i, key, seen, content);
+        self.count(fails_within(&back));
         back
     }
 

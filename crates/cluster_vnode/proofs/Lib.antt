@@ -1,3 +1,4 @@
+mod Entries
 pub mod Calls
 pub mod Vnodes
 pub mod Stand

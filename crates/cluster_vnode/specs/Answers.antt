@@ -8,6 +8,7 @@ use Rattle.vnode.specs.declared.fault.VnodeFault.{VnodeFault}
 use Rattle.vnode.specs.declared.fault.VnodeFault.TheVariants.{ContextAhead, TooManySiblings, ClockFull, MergedClockFull, JournalFull, NoMemory}
 use Rattle.cluster_stamps.specs.declared.request.Reply.{Reply}
 use Rattle.cluster_stamps.specs.Answered.{IsOutcome, made}
+use Rattle.cluster_stamps.specs.Rule.{total, entries}
 use Rattle.cluster_stamps.specs.declared.view.News.{News}
 use Rattle.cluster_stamps.specs.declared.view.News.TheVariants as news
 use Rattle.cluster_stamps.specs.declared.view.Told.{Told}
@@ -72,6 +73,10 @@ entries_of (t ∷ ts) = entry_of_call t ++ entries_of ts
 abbrev pub AreAnswered : List Entry → List Told → Type 0
 AreAnswered front [] = Unit {0}
 AreAnswered front (t ∷ ts) = IsAnswered front t × AreAnswered (front ++ entry_of_call t) ts
+
+-- how many entries the journals have whose histories a view has
+abbrev pub entries_told : View → ℕ
+entries_told v = total (λ h. entries h.told) v.histories
 
 -- the view of a vnode's seat: the history of the vnode, whose journal has these entries
 pub record IsVnodes (log : Log) (v : View) : Type 0 where

@@ -1,7 +1,7 @@
 //! A vnode under a lock, beside what its seat of the stamp word knows.
 
-ghost use Rattle.std.specs.Prelude.{◌≡◌, ◌+◌, ◌*◌, ◌<◌, ◌≤◌, [], ◌∷◌, ◌++◌, length, IfOk, IfErr, IfSome, IfNone, OnOk, Err, false, vec_len};
-ghost use Rattle.cluster_stamps.specs.Rule.{together, nothing, without_pass, pass_of, stamps_each, IsWithin, call_of, hand_out_of};
+ghost use Rattle.std.specs.Prelude.{◌≡◌, ◌+◌, ◌*◌, ◌<◌, ◌≤◌, [], ◌∷◌, ◌++◌, length, IfOk, IfErr, IfSome, IfNone, OnOk, Err, false, vec_len, is_ok, if◌then◌else◌};
+ghost use Rattle.cluster_stamps.specs.Rule.{together, nothing, without_pass, pass_of, stamps_each, IsWithin, call_of, hand_out_of, outcome_count};
 ghost use Rattle.std.specs.Prelude.{List};
 ghost use Rattle.journal.specs.Blocks.{AreHandedOut, all_of};
 ghost use Rattle.journal.specs.Entry.{Entry as Entered};
@@ -10,7 +10,7 @@ ghost use Rattle.journal.specs.Logs.{max_entries};
 ghost use Rattle.vnode.specs.Keys.{AreUnsorted};
 ghost use Rattle.ring.specs.Places.{ring_place};
 ghost use Rattle.cluster_stamps.specs.Answered.{asked};
-ghost use Rattle.cluster_vnode.specs.Answers.{IsVnodes, wants_memory, lacks_memory, log_of};
+ghost use Rattle.cluster_vnode.specs.Answers.{IsVnodes, entries_told, wants_memory, lacks_memory, log_of};
 ghost use Rattle.cluster_vnode.specs.Calls.{pass_view, told_then, IsTold, IsNews, IsFault, IsHandedOut, outcome_ok};
 
 use crate::fault::{CallFault, Receipt};
@@ -88,6 +88,8 @@ fn ask<Q: Asking>(
     ensures pass { pass.new.me ≡ (pass_view (pass.old.me.0.drawn + 1) (told_then pass.old.me.0.told (call_of vnode.old.vnode result.at result.stamp Q.request result.outcome)), pass.old.me.1) }
     ensures call { lacks_memory result.outcome ≡ false → IsTold (call_of vnode.old.vnode result.at result.stamp Q.request result.outcome) pass.old.me.0.told }
     ensures short { OnOk result.outcome (result.at < max_entries) }
+    ensures place { result.at ≡ length vnode.old.entries }
+    ensures entries { length vnode.new.entries ≡ length vnode.old.entries + outcome_count result.outcome }
 {
     lend(stamps, card, pass);
     let stamp = stamps.draw(card);
@@ -103,7 +105,7 @@ fn ask<Q: Asking>(
     Asked { at, stamp, outcome }
 }
 
-/// What lies under a vnode's lock.
+/// What lies under a vnode's lock. Contracts see the view of its seat, which tells how many entries its journal has.
 #[derive(Drop)]
 pub struct Locked<B: Room> {
     vnode: Vnode,
@@ -137,6 +139,8 @@ impl<B: Room> Locked<B> {
         ensures ok { IfOk result (λ r. (r.1.vnode ≡ id) × IsNews pass.old pass.new (call_of id r.1.place r.1.stamp (asked prepared.entry) (outcome_ok r.0))) }
         ensures err { IfErr result (IsFault pass.old pass.new id (asked prepared.entry)) }
         ensures drawn { pass.new.drawn ≤ pass.old.drawn + 1 }
+        ensures place { IfOk result (λ r. r.1.place ≡ entries_told self.old) }
+        ensures entries { entries_told self.new ≡ entries_told self.old + (if is_ok result then 1 else 0) }
     {
         let Locked { vnode, card, .. } = self;
         // Each vnode lies under the lock of its place. What is known of a lock doesn't say so: hence the test, which finds it so.

@@ -23,8 +23,8 @@ use crate::words::{Request, parse};
 use std::alloc::Global;
 use std::io::Write;
 
-/// The status where memory was refused for the store.
-const REFUSED: u8 = 1;
+/// The status where memory was refused for the store, and that of a program that is not accepted.
+pub(crate) const REFUSED: u8 = 1;
 
 /// The status after a [`Failure`].
 const FAILED: u8 = 2;

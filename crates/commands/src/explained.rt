@@ -6,6 +6,7 @@ ghost use Rattle.bpf_explain.specs.Texts.{explanation_text};
 ghost use Rattle.commands.specs.Command.{Explained, explanation_status};
 ghost use Rattle.commands.specs.Outcome.{line};
 
+use crate::command::REFUSED;
 use crate::failure::Failure;
 use crate::files::{Files, read_program};
 use bpf_admission::Refusal;
@@ -16,9 +17,6 @@ use std::io::Write;
 
 /// The status where a program is accepted.
 const ACCEPTED: u8 = 0;
-
-/// The status where it is not.
-const REFUSED: u8 = 1;
 
 /// The status that goes with an explanation.
 fn status_of(explanation: &Explanation) -> u8

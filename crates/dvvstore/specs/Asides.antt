@@ -1,5 +1,5 @@
 -- What is done beside workers.
-use Rattle.std.specs.Prelude.{◌≡◌, ◌+◌, ◌-◌, ◌/◌, ◌^◌, ◌++◌, ◌∷◌, ℕ, All, List, [], flat_map, length, min, sum, MatchOption, Option, Result, Ok, codes, true}
+use Rattle.std.specs.Prelude.{◌≡◌, ◌+◌, ◌-◌, ◌/◌, ◌^◌, ◌++◌, ◌∷◌, ℕ, All, List, [], flat_map, length, min, sum, Option, Result, Ok, codes, true}
 use Rattle.journal.specs.Logs.{Log}
 use Rattle.key_state.specs.declared.content.Key.{Key}
 use Rattle.record_codec.specs.declared.record.Record.{Record}
@@ -14,7 +14,7 @@ use Rattle.cluster_vnode.specs.Gathers.{IsGathered}
 use Rattle.audit_cluster.specs.Following.{IsOfWatch}
 use Rattle.audit_cluster.specs.Moments.{AreMadeBy}
 use Rattle.kept_file.specs.Files.{IsFileOf}
-use Rattle.kept_folder.specs.Numbers.{number_text}
+use Rattle.kept_folder.specs.Starts.{HasStart}
 use Rattle.kept_folder.specs.Reads.{name_of}
 use Rattle.kept_folder.specs.Seals.{sealed}
 use Rattle.kept_folder.specs.Steps.{IsPut, Step}
@@ -95,15 +95,10 @@ abbrev pub AreListed : {F : Type 0} → (F → Step → F → Type 0) → F → 
 AreListed does old new = (held : List ℕ) × IsWholeList held × IsPut does old (codes "hooks.requests") (sealed held) new
 
 module _ {F : Type 0} (finds : F → List ℕ → Option (List ℕ) → Type 0) (does : F → Step → F → Type 0) where
-  -- the number of a start is there: it was put where it was lacking
-  abbrev pub HasNumber : ℕ → F → F → Type 0
-  HasNumber number old new =
-      (found : Option (List ℕ)) × finds old (codes "incarnation") found × MatchOption found (IsPut does old (codes "incarnation") (sealed (number_text number)) new) (λ bytes. new ≡ old)
-
-  -- so they were behind the files of vnodes, and the number of the start is there
-  abbrev pub IsRestKept : ℕ → F → F → Type 0
-  IsRestKept number old new = (mid : F) × AreListed does old mid × HasNumber number mid new
+  -- so they were behind the files of so many vnodes, and the number of the start is there, with how many have files
+  abbrev pub IsRestKept : ℕ → ℕ → F → F → Type 0
+  IsRestKept number filed old new = (mid : F) × AreListed does old mid × HasStart finds does number filed mid new
 
   -- a snapshot of vnodes, numbered from the first on, by these passes: all files were put, and so many keys are told
   abbrev pub IsKept : ℕ → F → List View → List View → F → ℕ → Type 0
-  IsKept first folder old new after keys = AreAllKept does folder first old new keys × IsRestKept (first / 256) folder after
+  IsKept first folder old new after keys = AreAllKept does folder first old new keys × IsRestKept (first / 256) (length old) folder after

@@ -1,5 +1,5 @@
 -- What stands on the output when a store that is kept has ended (this store's profile).
-use Rattle.std.specs.Prelude.{◌≡◌, ◌⊎◌, ◌/◌, ◌++◌, ◌∷◌, ℕ, List, [], Option, Some, None, Result, Ok, Err, true, codes, decimal, vec_len}
+use Rattle.std.specs.Prelude.{◌≡◌, ◌⊎◌, ◌/◌, ◌++◌, ◌∷◌, ℕ, List, [], Option, Some, None, Result, Ok, Err, true, codes, decimal, length, min, vec_len}
 use Rattle.bpf_image.specs.declared.image.ImageKind.{ImageKind}
 use Rattle.bpf_verifier.specs.Program.{Program}
 use Rattle.hook_registry.specs.Changes.{Change}
@@ -15,7 +15,9 @@ use Rattle.audit_cluster.specs.Following.{IsSaidOf}
 use Rattle.audit_faults.specs.declared.fault.WatchFault.{WatchFault}
 use Rattle.kept_file.specs.declared.file.KeptFile.{KeptFile}
 use Rattle.kept_fold.specs.Folds.{AreFolded}
+use Rattle.kept_folder.specs.Reads.{most_vnodes}
 use Rattle.kept_folder.specs.Seals.{sealed}
+use Rattle.kept_folder.specs.Starts.{HasStart}
 use Rattle.kept_folder.specs.Steps.{ArePut, AreFilesOf, Put, Step}
 use Rattle.journal.specs.Logs.{Log}
 use Rattle.kept_hooks.specs.Lists.{Listed}
@@ -24,7 +26,6 @@ use Rattle.kept_restore.specs.Beginnings.{BeginWithFiles, HaveLoaded, fronts_to}
 use Rattle.cluster_stamps.specs.declared.view.View.{View}
 use Rattle.server_one_thread.specs.Passes.{Passing}
 use Rattle.server_store.specs.View.{StoreView}
-use Rattle.dvvstore.specs.Asides.{HasNumber}
 use Rattle.dvvstore.specs.Visits.{AfterAnswers, HasAll}
 use Rattle.dvvstore.specs.declared.crew.running.Served.{Served}
 use Rattle.dvvstore.specs.declared.keeper.Begun.{Begun}
@@ -137,14 +138,19 @@ module _ {H : Type 0} (finds : H → List ℕ → ImageKind → Result (Option P
 
 -- ---- what a stop writes
 
+-- the files of vnodes and that of requests
+abbrev pub AreFilesPut : {F : Type 0} → (F → Step → F → Type 0) → List Log → Listed → F → F → Type 0
+AreFilesPut does vnodes requests old new =
+    (requests.whole ≡ true)
+    × ((files : List Put) × AreFilesOf 0 vnodes files
+    × ArePut does old (files ++ record { name = codes "hooks.requests"; bytes = sealed (all_spelled requests.requests) } ∷ []) new)
+
 module _ {F : Type 0} (finds : F → List ℕ → Option (List ℕ) → Type 0) (does : F → Step → F → Type 0) where
-  -- All files of a store that has ended were put: the number of its start, where that was lacking, of each of these vnodes what its journal leaves, and the requests
-  -- that make its hooks what they are, none of which is lacking.
+  -- All files of a store that has ended were put: of each of these vnodes what its journal leaves, and the requests that make its hooks what they are, none of which
+  -- is lacking; behind them the number of its start is there, and how many vnodes have files.
   abbrev pub ArePutOf : ℕ → List Log → Listed → F → F → Type 0
   ArePutOf number vnodes requests old new =
-      (mid : F) × HasNumber finds does number old mid × (requests.whole ≡ true)
-      × ((files : List Put) × AreFilesOf 0 vnodes files
-      × ArePut does mid (files ++ record { name = codes "hooks.requests"; bytes = sealed (all_spelled requests.requests) } ∷ []) new)
+      (mid : F) × AreFilesPut does vnodes requests old mid × HasStart finds does number (min (length vnodes) most_vnodes) mid new
 
   -- so it is where all was kept
   abbrev pub Keeps : {V : Type 0} → ℕ → Served → F → F → Ended V → Type 0

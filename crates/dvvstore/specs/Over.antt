@@ -10,7 +10,7 @@ use Rattle.hook_sharing.specs.Taking.{Takes}
 use Rattle.kept_file.specs.Numbers.{all_ids}
 use Rattle.kept_file.specs.Placed.{ArePlaced}
 use Rattle.kept_file.specs.declared.file.KeptFile.{KeptFile}
-use Rattle.kept_folder.specs.Numbers.{number_text}
+use Rattle.kept_folder.specs.Numbers.{start_text}
 use Rattle.kept_folder.specs.Reads.{AreAllFiles, IsHeldIn, IsReadAt, most_vnodes}
 use Rattle.kept_folder.specs.Seals.{sealed}
 use Rattle.kept_folder.specs.Settings.{IsSetBy}
@@ -38,7 +38,7 @@ module _ {F : Type 0} (finds : F → List ℕ → Option (List ℕ) → Type 0) 
     pub next : (last : ℕ) → opened.held.last ≡ Some last → last < opened.number
     pub above : (id : ℕ) → Contains (all_ids opened.held.files.items) id → id / 256 < opened.number
     pub least : minute ≤ opened.number
-    pub put : IsPut does old (codes "incarnation") (sealed (number_text opened.number)) mid
+    pub put : IsPut does old (codes "incarnation") (sealed (start_text opened.number opened.held.filed)) mid
 
   -- A store was kept in a folder. Its start read what the folder held, and so many vnodes, whose identifiers have the start's number, began with all of it, placed and
   -- folded: the journals that are left begin with that, and hold what workers with these tables were told from then on, whose calls are steps of the run that goes on

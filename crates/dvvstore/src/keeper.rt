@@ -155,6 +155,7 @@ impl<N, F: Drop, L> Stay<'_, N, F, L> {
         } = self;
         let Held {
             last,
+            filed,
             settings,
             hooks,
             files,
@@ -163,6 +164,7 @@ impl<N, F: Drop, L> Stay<'_, N, F, L> {
         let files = fold_files(alloc, files, number)?;
         let held = Held {
             last,
+            filed,
             settings,
             hooks,
             files,

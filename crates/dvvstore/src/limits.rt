@@ -1,5 +1,10 @@
 //! The limits of the server: how much may wait, how often is looked, and how long is rested.
 
+/// Who may do what with a folder that is made, and with its files, as Unix has it: their owner all, and nobody else anything.
+pub(crate) const FOLDER_MODE: u32 = 0o700;
+
+pub(crate) const FILE_MODE: u32 = 0o600;
+
 /// The most vnodes that a store has: as many as a folder has files of records.
 pub(crate) const MAX_VNODES: u32 = 16;
 

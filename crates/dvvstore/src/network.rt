@@ -6,12 +6,13 @@ ghost use Rattle.commands.specs.Command.{HasKept, HasRefused};
 ghost use Rattle.kept_file.specs.Placed.{ArePlaced};
 ghost use Rattle.dvvstore.specs.Crews.{by_digest};
 ghost use Rattle.shared_prefix.specs.Lists.{book_of};
-ghost use Rattle.dvvstore.specs.Keeping.{ArePutOf, HasEnded, IsRefusal, IsUnkept, Keeps};
+ghost use Rattle.dvvstore.specs.Keeping.{ArePutOf, AreFilesPut, HasEnded, IsRefusal, IsUnkept, Keeps};
 ghost use Rattle.dvvstore.specs.Over.{IsOpened, KeptOver, ended_says};
 
 use crate::crew::Served;
 use crate::host::Host;
 use crate::keeper::{Address, Door, Stay, Unbegun};
+use crate::limits::MAX_VNODES;
 use crate::reasons::bind;
 use crate::session;
 use crate::session::{Left, Making};
@@ -25,7 +26,7 @@ use commands::server::{Ended, Post, Says, Server, Site, Unserved};
 use dvv::VNODES_PER_NUMBER;
 use kept_file::placed;
 use kept_folder::{
-    FileFault, Folder, Held, LogFolder, Logs, OpenFault, Opened, Unreplaced, keep_all, keep_number,
+    FileFault, Folder, Held, LogFolder, Logs, OpenFault, Opened, Unreplaced, keep_all, keep_start,
 };
 use kept_hooks::Requests;
 use log_desk::{HooksFile, NoLedger, PageFault, Pages};
@@ -371,6 +372,7 @@ fn held_for(alloc: Global, spread: Spread, held: Held) -> Result<Held, AllocErro
 {
     let Held {
         last,
+        filed,
         settings,
         hooks,
         files,
@@ -379,6 +381,7 @@ fn held_for(alloc: Global, spread: Spread, held: Held) -> Result<Held, AllocErro
     let files = placed(alloc, &spread.placement(), &files)?;
     Ok(Held {
         last,
+        filed,
         settings,
         hooks,
         files,
@@ -446,8 +449,8 @@ fn lose<O: Write>(alloc: Global, out: &mut O) -> Result<Ended<Said>, Unserved>
     Ok(Ended::Unkept(Said(Verdict::no_memory())))
 }
 
-/// Writes what is left of a store into its folder, and the number of its start where that is lacking, and tells how many records that is,
-/// or why not all is written.
+/// Writes what is left of a store into its folder, with the number of its start and how many vnodes have files, and tells how many records
+/// that is, or why not all is written.
 pub(crate) fn finish<F: Folder, O: Write>(
     alloc: Global,
     folder: &mut F,
@@ -475,8 +478,8 @@ pub(crate) fn finish<F: Folder, O: Write>(
     }
 }
 
-/// Has the number of a start be in a folder, and replaces all files by what vnodes hold that nobody calls any more, and by the requests that
-/// make their hooks what they are. Answers how many records are written.
+/// Replaces all files of a folder by what vnodes hold that nobody calls any more, and by the requests that make their hooks what they are,
+/// and has the number of the start be there and how many vnodes have files. Answers how many records are written.
 fn write_all<F: Folder>(
     alloc: Global,
     folder: &mut F,
@@ -486,7 +489,21 @@ fn write_all<F: Folder>(
 ) -> Result<usize, Unreplaced>
     ensures put { OnOk result (ArePutOf F.finds F.does number vnodes.now requests.now folder.old folder.new) }
 {
-    keep_number(alloc, folder, number)?;
+    let kept = write_files(alloc, folder, vnodes, requests)?;
+    let filed = vnodes.len().min(MAX_VNODES as usize) as u32;
+    keep_start(alloc, folder, number, filed)?;
+    Ok(kept)
+}
+
+/// The same of the files of vnodes and of that of the requests.
+fn write_files<F: Folder>(
+    alloc: Global,
+    folder: &mut F,
+    vnodes: &[Vnode],
+    requests: &Requests,
+) -> Result<usize, Unreplaced>
+    ensures put { OnOk result (AreFilesPut F.does vnodes.now requests.now folder.old folder.new) }
+{
     match requests.bytes() {
         Ok(Some(requests)) => keep_all(alloc, folder, vnodes, Some(&requests)),
         // One of them is lacking, or memory for them.

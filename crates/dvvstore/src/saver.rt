@@ -13,7 +13,7 @@ use cluster_peers::ClusterPeers;
 use dvv::VNODES_PER_NUMBER;
 use kept_file::{SnapshotFault, Subject};
 use kept_folder::{
-    FileFault, Folder, HOOKS, Unreplaced, WriteFault, keep_number, keep_requests, keep_served,
+    FileFault, Folder, HOOKS, Unreplaced, WriteFault, keep_requests, keep_served, keep_start,
 };
 use kept_restore::processors;
 use log_desk::{Page, Pages};
@@ -186,8 +186,8 @@ impl<F: Folder + Copy + Send + Sync> Saver<F> {
     }
 
     /// Replaces the files of a folder by what vnodes hold that serve, and by the requests that install and bind their hooks. Answers how
-    /// many keys the vnodes have. Where a vnode's file isn't replaced those of the others may be, and that of the requests isn't. Where
-    /// the number of the start is lacking, it is written again.
+    /// many keys the vnodes have. Where a vnode's file isn't replaced those of the others may be, and that of the requests isn't. Behind
+    /// them stands the number of the start, and how many vnodes have files.
     fn write<B: Room + Send + Sync, R: Threads + Wait + Sync>(
         &mut self,
         rt: &R,
@@ -200,24 +200,26 @@ impl<F: Folder + Copy + Send + Sync> Saver<F> {
         ensures count { vec_len result.0 ≡ vec_len spares }
         ensures put { IfOk result.1 (IsKept F.finds F.does self.old.shelf.first self.old.shelf.folder spares.items result.0.items self.new.shelf.folder) }
     {
+        let filed = spares.len() as u32;
         let (spares, came) = self.write_vnodes(rt, cluster, spares, signs);
-        (spares, self.write_rest(rt, signs, came))
+        (spares, self.write_rest(rt, signs, came, filed))
     }
 
-    /// Replaces the file of the requests that install and bind hooks, and has the number of the start be there, where the files of vnodes were
-    /// replaced, of which came so many keys.
+    /// Replaces the file of the requests that install and bind hooks, and has the number of the start be there and how many vnodes have files,
+    /// where the files of so many were replaced, of which came so many keys.
     fn write_rest<R: Wait>(
         &mut self,
         rt: &R,
         signs: &Signs<'_>,
         came: Result<usize, Unreplaced>,
+        filed: u32,
     ) -> Result<usize, Unreplaced>
-        ensures put { IfOk result (λ keys. (came ≡ Ok keys) × IsRestKept F.finds F.does (self.old.shelf.first / 256) self.old.shelf.folder self.new.shelf.folder) }
+        ensures put { IfOk result (λ keys. (came ≡ Ok keys) × IsRestKept F.finds F.does (self.old.shelf.first / 256) filed self.old.shelf.folder self.new.shelf.folder) }
     {
         let keys = came?;
         let number = self.shelf.number();
         self.shelf.write_requests(rt, signs)?;
-        keep_number(self.shelf.alloc, &mut self.shelf.folder, number)?;
+        keep_start(self.shelf.alloc, &mut self.shelf.folder, number, filed)?;
         Ok(keys)
     }
 

@@ -1,12 +1,13 @@
 //! The folder of a store that is kept, in the system's files.
 
+use crate::limits::{FILE_MODE, FOLDER_MODE};
 use kept_folder::{FileFault, Folder, LogFolder, keep_requests};
 use log_desk::HooksFile;
 use log_system::SystemLog;
 use std::alloc::{AllocError, Global};
 use std::fs::OpenFile as _;
 use std::io::{ErrorKind, Read as _};
-use std::os::unix::fs::MetadataExt as _;
+use std::os::unix::fs::{DirBuilderExt as _, MetadataExt as _, OpenOptionsExt as _};
 use std::{fs, io};
 use thiserror::Error;
 
@@ -77,11 +78,14 @@ impl Lock<'_> {
     }
 }
 
-/// Takes the folder with a path, which is made where it is missing: its own name is forced to the device, too.
+/// Takes the folder with a path, which is made where it is missing, its owner's alone: its own name is forced to the device, too.
 pub fn take<'a>(rt: &'a HostRuntime, alloc: Global, path: &'a str) -> Result<Lock<'a>, Untaken> {
-    fs::create_dir_all(rt, path)?;
+    fs::DirBuilder::new()
+        .recursive(true)
+        .mode(FOLDER_MODE)
+        .create(rt, path)?;
     force_name(rt, alloc, path)?;
-    let file = fs::File::create(rt, format!(in alloc; "{path}/{LOCK}")?.as_str())?;
+    let file = begun(rt, format!(in alloc; "{path}/{LOCK}")?.as_str())?;
     let node = Node::of(&file.metadata()?);
     match file.try_lock() {
         Ok(()) => Ok(Lock {
@@ -94,6 +98,16 @@ pub fn take<'a>(rt: &'a HostRuntime, alloc: Global, path: &'a str) -> Result<Loc
         Err(fs::TryLockError::WouldBlock) => Err(Untaken::InUse),
         Err(fs::TryLockError::Error(error)) => Err(Untaken::from(error)),
     }
+}
+
+/// Begins the file with a path anew. One that wasn't there is its owner's alone.
+fn begun(rt: &HostRuntime, path: &str) -> io::Result<fs::File> {
+    fs::OpenOptions::new()
+        .write(true)
+        .create(true)
+        .truncate(true)
+        .mode(FILE_MODE)
+        .open(rt, path)
 }
 
 /// Forces the name of a folder to the device, where the one around it can be opened: who may not read that may still use this.
@@ -191,7 +205,7 @@ impl Folder for SystemFolder<'_> {
     fn create(&mut self, name: &str) -> Result<fs::File, FileFault> {
         self.look()?;
         let path = self.path_of(name)?;
-        done(fs::File::create(self.rt, path.as_str()))
+        done(begun(self.rt, path.as_str()))
     }
 
     fn force(&mut self, file: fs::File) -> Result<(), FileFault> {
@@ -231,7 +245,7 @@ impl LogFolder for SystemFolder<'_> {
     fn begin_log(&mut self, number: u64) -> Result<SystemLog, FileFault> {
         self.look()?;
         let path = self.log_path(number)?;
-        done(fs::File::create(self.rt, path.as_str()))?;
+        done(begun(self.rt, path.as_str()))?;
         let opened = fs::OpenOptions::new()
             .append(true)
             .open(self.rt, path.as_str());

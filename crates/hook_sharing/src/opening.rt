@@ -23,11 +23,6 @@ pub struct Opening {
 }
 
 impl Opening {
-    /// A list of its own, of changes whose names and buckets no stranger chooses.
-    pub fn new() -> Opening {
-        Opening::seeded(DefaultHasher::new())
-    }
-
     /// A list of its own. The hashes of names and buckets begin with what a hasher was given: where that can't be guessed, strangers who
     /// choose names can't make look-ups slow.
     pub fn seeded(hasher: DefaultHasher) -> Opening {

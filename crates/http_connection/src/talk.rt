@@ -194,6 +194,7 @@ impl Talk {
         let ask = Ask {
             what: What::Continue,
             head_only: false,
+            if_none_match: None,
         };
         self.push_reply(desk, backend, copies, &ask, false)?;
         self.change_head(len, head.as_slice());

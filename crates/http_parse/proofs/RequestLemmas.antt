@@ -7,7 +7,7 @@ use Rattle.httparse.specs.declared.spans.RequestSpans.{RequestSpans}
 use Rattle.http_request.specs.Head.{BeginsHead, IsOriginTarget}
 use Rattle.http_request.specs.Fields.{Pair, Framing, fault_among, framing_among, framing_of, pairs_of, fields_fault, is_last, waits_by, waits_to_go_on, head_anew, without_expectation}
 use Rattle.http_request.specs.Target.{path_at, query_at}
-use Rattle.http_request.specs.Ask.{Request, request, asked_of, asked_by, asked_by_method, asked_by_none, asked_to_go_on, Asks, bad_target, bad_fields, goes_on, bad_body, whole, IsUnfinished, in_body}
+use Rattle.http_request.specs.Ask.{Request, request, asked_by, asked_by_method, asked_whole, asked_by_none, asked_to_go_on, Asks, bad_target, bad_fields, goes_on, bad_body, whole, IsUnfinished, in_body}
 use Rattle.http_request.specs.Body.{HasBody, BodyFault, IsBodyUnfinished}
 use Rattle.http_request.specs.declared.ask.Ask.{Ask}
 use Rattle.http_request.specs.declared.ask.What.TheVariants.{Refused}
@@ -100,7 +100,7 @@ module _ (n : ℕ) (buf : List ℕ) (lines : List HeaderSpan) (spans : RequestSp
   pub is_whole : (framed : Framing) (ask : Ask) (path query body : List ℕ) (len : ℕ) (ends : Bool) → IsOriginTarget target
       → fault_among version method fields ≡ None → framed ≡ framing_among fields → waits_by version fields framed ≡ false
       → ((more : List ℕ) → HasBody framed (drop spans.len buf ++ more) body (drop len buf ++ more)) → path ≡ path_at target → query ≡ query_at target
-      → ask ≡ asked_by_method method (asked_of n (record { method = method; path = path; query = query; pairs = fields; body = body }))
+      → ask ≡ asked_whole n (record { method = method; path = path; query = query; pairs = fields; body = body })
       → ends ≡ is_last head
       → (more : List ℕ) → Asks n (buf ++ more) ask ends (next_of ends len buf more)
   is_whole framed ask path query body len ends origin f e here has p q a l more =
@@ -109,7 +109,6 @@ module _ (n : ℕ) (buf : List ℕ) (lines : List HeaderSpan) (spans : RequestSp
       (subst (λ k. HasBody k (drop spans.len buf ++ more) body (drop len buf ++ more)) (sym (framing_is framed e)) (has more)) in
       let same = same_request method head.method path (path_at head.target) query (query_at head.target) fields (pairs_of head) body body
       m (p ∙ ap path_at t) (q ∙ ap query_at t) at.fields refl in
-      let ask_is : ask ≡ asked_by n head body = a ∙ (ap (λ r. asked_by_method method (asked_of n r)) (sym same.1 ∙ same.2)
-      ∙ ap (λ x. asked_by_method x (asked_of n (request head.method head.target (pairs_of head) body))) m) in
+      let ask_is : ask ≡ asked_by n head body = a ∙ ap (asked_whole n) (sym same.1 ∙ same.2) in
       let P : Ask → Bool → Type 0 = λ x z. Asks n (buf ++ more) x z (next_of z len buf more) in
       subst (λ z. P ask z) (sym l) (subst (λ x. P x (is_last head)) (sym ask_is) all)

@@ -18,6 +18,7 @@ pub record AreFirst (fields : Fields) (pairs : List Pair) : Type 0 where
   pub content_type : option_copied fields.content_type ≡ value_of (codes "content-type") pairs
   pub context : option_copied fields.context ≡ value_of (codes "x-riak-vclock") pairs
   pub expect : option_copied fields.expect ≡ value_of (codes "expect") pairs
+  pub if_none_match : option_copied fields.if_none_match ≡ value_of (codes "if-none-match") pairs
 
 -- each is the value of the first pair of its name, or such a pair is among the rest; and so with what says `close`
 pub record LeadTo (fields : Fields) (rest pairs : List Pair) : Type 0 where
@@ -28,6 +29,7 @@ pub record LeadTo (fields : Fields) (rest pairs : List Pair) : Type 0 where
   pub content_type : or_else (option_copied fields.content_type) (value_of (codes "content-type") rest) ≡ value_of (codes "content-type") pairs
   pub context : or_else (option_copied fields.context) (value_of (codes "x-riak-vclock") rest) ≡ value_of (codes "x-riak-vclock") pairs
   pub expect : or_else (option_copied fields.expect) (value_of (codes "expect") rest) ≡ value_of (codes "expect") pairs
+  pub if_none_match : or_else (option_copied fields.if_none_match) (value_of (codes "if-none-match") rest) ≡ value_of (codes "if-none-match") pairs
 
 -- the value of a field, where it stands, accepts this element
 abbrev pub accepted : List ℕ → Option (List ℕ) → Bool

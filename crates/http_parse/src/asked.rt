@@ -7,7 +7,7 @@ ghost use Rattle.http_request.specs.Target as target;
 ghost use Rattle.http_request.specs.Fields as fields;
 ghost use Rattle.http_request.specs.Target.{texts_of};
 ghost use Rattle.http_request.specs.Ask as spec;
-ghost use Rattle.http_request.specs.Ask.{asked_of, asked_at, asked_at_key, asked_at_bucket, asked_by_method, asked_else, asked_named, asked_props, is_method, is_read, context_of};
+ghost use Rattle.http_request.specs.Ask.{asked_of, asked_at, asked_at_key, asked_at_bucket, asked_by_method, asked_else, asked_named, asked_props, asked_whole, known_tags, is_method, is_read, context_of};
 ghost use Rattle.http_request.specs.Props as props;
 ghost use Rattle.http_request.specs.declared.ask.What.TheVariants as asks;
 ghost use Rattle.http_request.specs.declared.ask.Call.TheVariants as calls;
@@ -56,13 +56,14 @@ const OLD_KEY: KeyAt = KeyAt {
     key: 3,
 };
 
-// What a method asks for: `HEAD` alone asks for no more than the head of its answer.
+/// What a method asks for, whatever the fields say: `HEAD` alone asks for no more than the head of its answer.
 pub(crate) fn asked_by(method: &[u8], what: What) -> Ask
     ensures { result ≡ asked_by_method method.now what }
 {
     Ask {
         what,
         head_only: method == b"HEAD".as_slice(),
+        if_none_match: None,
     }
 }
 
@@ -82,11 +83,29 @@ impl Request<'_> {
     pub(crate) fn ask(self, alloc: Global, routes: &Routes, copies: u32) -> Result<Ask, AllocError>
         requires some { 1 ≤ copies }
         requires few { copies ≤ 3 }
-        ensures asked { IfOk result (λ ask. ask ≡ asked_by_method self.entry.method.now (asked_of copies (request self.entry))) }
+        ensures asked { IfOk result (λ ask. ask ≡ asked_whole copies (request self.entry)) }
         ensures fits { IfOk result (FitsAsk copies) }
     {
+        let if_none_match = self.known_tags(alloc)?;
         let what = self.what(alloc, routes, copies)?;
-        Ok(asked_by(self.method, what))
+        Ok(Ask {
+            what,
+            head_only: self.is(b"HEAD"),
+            if_none_match,
+        })
+    }
+
+    // The entity tags that the client of a read has.
+    fn known_tags(self, alloc: Global) -> Result<Option<Bytes>, AllocError>
+        ensures { IfOk result (λ tags. tags ≡ known_tags (request self.entry)) }
+    {
+        if !self.is_read() {
+            return Ok(None);
+        }
+        match self.fields.if_none_match {
+            Some(tags) => Ok(Some(Bytes::from_slice(alloc, tags)?)),
+            None => Ok(None),
+        }
     }
 
     // What is asked for, by whatever method.

@@ -21,6 +21,7 @@ pub(crate) struct Fields<'b> {
     pub(crate) content_type: Option<&'b [u8]>,
     pub(crate) context: Option<&'b [u8]>,
     pub(crate) expect: Option<&'b [u8]>,
+    pub(crate) if_none_match: Option<&'b [u8]>,
 }
 
 /// The fields of the lines.
@@ -36,6 +37,7 @@ pub(crate) fn fields_of<'b>(bytes: &'b [u8], lines: &[HeaderSpan]) -> Fields<'b>
         content_type: None,
         context: None,
         expect: None,
+        if_none_match: None,
     };
     for line in lines {
         fields = with_line(fields, bytes, *line);
@@ -56,6 +58,7 @@ fn with_line<'b>(fields: Fields<'b>, bytes: &'b [u8], line: HeaderSpan) -> Field
         content_type: first(fields.content_type, bytes, line, b"content-type"),
         context: first(fields.context, bytes, line, b"x-riak-vclock"),
         expect: first(fields.expect, bytes, line, b"expect"),
+        if_none_match: first(fields.if_none_match, bytes, line, b"if-none-match"),
     }
 }
 

@@ -146,6 +146,7 @@ fn no_head(len: usize) -> Asking
         ask: Ask {
             what: What::Refused(Refusal::BadHead),
             head_only: false,
+            if_none_match: None,
         },
         ends: true,
         len,

@@ -17,7 +17,7 @@ use Rattle.http_request.specs.declared.ask.Property.TheVariants.{AllowMult, Last
 use Rattle.http_request.specs.declared.ask.Form.TheVariants.{Text, Parts}
 use Rattle.http_request.specs.declared.ask.Call.TheVariants.{Put, SetProps}
 use Rattle.http_request.specs.declared.ask.What.TheVariants.{Resources, Options, Call, Refused}
-use Rattle.http_request.specs.Ask.{asked_named, asked_at, asked_bucket, asked_by_method, form_of, request}
+use Rattle.http_request.specs.Ask.{asked_named, asked_at, asked_bucket, asked_whole, form_of, known_tags, request}
 use Rattle.http_request.specs.Target.{quorums_of}
 use Rattle.http_request.specs.Props.{changes_at}
 use Rattle.serde_json.specs.Find.{get}
@@ -191,9 +191,18 @@ in_parts = refl
 
 -- HEAD asks for what GET asks, and for no more of the answer than its head
 by_head :
-    (asked_by_method (codes "HEAD") (asked_at 3 (Some route.Root) (request (codes "HEAD") (codes "/") [] [])) ≡ record { what = Resources; head_only = true })
-    × (asked_by_method (codes "GET") (asked_at 3 (Some route.Root) (request (codes "GET") (codes "/") [] [])) ≡ record { what = Resources; head_only = false })
+    (asked_whole 3 (request (codes "HEAD") (codes "/") [] []) ≡ record { what = Resources; head_only = true; if_none_match = None })
+    × (asked_whole 3 (request (codes "GET") (codes "/") [] []) ≡ record { what = Resources; head_only = false; if_none_match = None })
+unfolding routes seek param_step scan
 by_head = (refl, refl)
+
+-- the tags that a client of a read has are those of the first field; of a write none are told
+tags :
+    (known_tags (request (codes "GET") (codes "/") ((codes "IF-NONE-MATCH", codes "\"a\", \"b\"") ∷ (codes "If-None-Match", codes "*") ∷ []) []) ≡ Some (codes "\"a\", \"b\""))
+    × (known_tags (request (codes "HEAD") (codes "/") ((codes "If-None-Match", []) ∷ []) []) ≡ Some [])
+    × (known_tags (request (codes "HEAD") (codes "/") ((codes "If-Match", codes "*") ∷ []) []) ≡ None)
+    × (known_tags (request (codes "PUT") (codes "/") ((codes "If-None-Match", codes "*") ∷ []) []) ≡ None)
+tags = (refl, refl, refl, refl)
 
 -- DELETE of properties takes back both bindings
 unbinds : asked_bucket 3 (codes "b") (request (codes "DELETE") (codes "/buckets/b/props") [] (codes "x")) ≡ Call (SetProps (codes "b") Unbound Unbound) Text

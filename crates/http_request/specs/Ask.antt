@@ -1,5 +1,5 @@
 -- What the first request of some bytes asks for (this store's profile of HTTP/1.1 and of Riak KV's HTTP API).
-use Rattle.std.specs.Prelude.{◌≡◌, ℕ, Bool, true, false, ◌&&◌, ◌||◌, if◌then◌else◌, bytes_eq, List, [], ◌++◌, length, codes, Option, Some, None, unwrap_or, Result, Ok, Err}
+use Rattle.std.specs.Prelude.{◌≡◌, ℕ, Bool, true, false, ◌&&◌, ◌||◌, if◌then◌else◌, bytes_eq, List, [], ◌++◌, codes, Option, Some, None, unwrap_or, Result, Ok, Err}
 use Rattle.httparse.specs.Grammar.{RequestHead}
 use Rattle.dvv.specs.declared.Dot.{Dot}
 use Rattle.key_state.specs.declared.content.Content.TheVariants.{Value, Tombstone}
@@ -113,17 +113,21 @@ asked_bucket n bucket q =
 abbrev pub asked_else : Route → Request → What
 asked_else at q = if is_method q (codes "OPTIONS") then Options at else Refused (Method at)
 
--- what a method asks for: HEAD alone asks for no more than the head of its answer
+-- what a method asks for, whatever the fields say: HEAD alone asks for no more than the head of its answer
 abbrev pub asked_by_method : List ℕ → What → Ask
-asked_by_method method what = record { what = what; head_only = bytes_eq method (codes "HEAD") }
+asked_by_method method what = record { what = what; head_only = bytes_eq method (codes "HEAD"); if_none_match = None }
+
+-- the entity tags that the client of a read has, as its first If-None-Match field lists them (RFC 9110, 13.1.2)
+abbrev pub known_tags : Request → Option (List ℕ)
+known_tags q = if is_read q then value_of (codes "if-none-match") q.pairs else None
 
 -- what is asked by a head that is none
 abbrev pub asked_by_none : Ask
-asked_by_none = record { what = Refused BadHead; head_only = false }
+asked_by_none = record { what = Refused BadHead; head_only = false; if_none_match = None }
 
 -- what is asked by a client that waits to be told to go on
 abbrev pub asked_to_go_on : Ask
-asked_to_go_on = record { what = Continue; head_only = false }
+asked_to_go_on = record { what = Continue; head_only = false; if_none_match = None }
 
 -- what the method asks of a bucket, whose name is the i-th piece of the path
 abbrev pub asked_at_bucket : ℕ → Route → ℕ → Request → What
@@ -156,9 +160,13 @@ module _ (n : ℕ) where
   abbrev pub asked_of : Request → What
   asked_of q = asked_at (route_of q.path) q
 
+  -- the same, with how much of the answer is shown
+  abbrev pub asked_whole : Request → Ask
+  asked_whole q = record { what = asked_of q; head_only = is_method q (codes "HEAD"); if_none_match = known_tags q }
+
   -- what a whole request asks for
   abbrev pub asked_by : RequestHead → List ℕ → Ask
-  asked_by head body = asked_by_method head.method (asked_of (request head.method head.target (pairs_of head) body))
+  asked_by head body = asked_whole (request head.method head.target (pairs_of head) body)
 
   -- rest begins with a request: what it asks for, whether the connection ends after the answer, and what is
   -- read next (nothing, where it ends). A request whose client waits to be told to go on is two: that is asked first, whether the body is there or

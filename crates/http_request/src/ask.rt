@@ -142,4 +142,7 @@ pub struct Ask {
     pub what: What,
     /// The answer's head alone is shown, as `HEAD` asks (RFC 9110, 9.3.2).
     pub head_only: bool,
+    /// The list of the entity tags that the client of a read has, if it has some: what has one of them isn't shown again
+    /// (`If-None-Match`, RFC 9110, 13.1.2). It may be any bytes.
+    pub if_none_match: Option<Bytes>,
 }

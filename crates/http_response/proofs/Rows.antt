@@ -1,5 +1,5 @@
 -- The worked answers, computed by the definitions.
-use Rattle.std.proofs.Common.{◌≡◌, List, [], ◌∷◌, ◌++◌, Some, None, Ok, Err, refl, ap, append_assoc, true, false, length}
+use Rattle.std.proofs.Common.{◌≡◌, ℕ, List, [], ◌∷◌, ◌++◌, Some, None, Ok, Err, refl, ap, append_assoc, true, false, length}
 use Rattle.std.specs.Prelude.{codes}
 use Rattle.std.specs.Fmt.{digits}
 use Rattle.percent_encoding.specs.Percent.{percent_encode_byte}
@@ -18,16 +18,30 @@ use Rattle.http_request.specs.declared.ask.Call.TheVariants.{Get, Put}
 use Rattle.http_request.specs.declared.ask.Form.TheVariants.{Text, Parts, One}
 use Rattle.http_response.specs.declared.reply.Reply.TheVariants.{Nothing, Got, Stored}
 use Rattle.http_response.specs.Parts.{line, parts_body, boundary_of}
-use Rattle.http_response.specs.Answer.{answer, escaped, own_fields, print_answer, props_text, shown_etag, tags_text}
+use Rattle.http_response.specs.Answer.{answer, deleted, escaped, etag_of, found_of, listed, nothing, own_fields, print_answer, props_text, tags_text}
+use Rattle.http_response.specs.Known.{lists_tag}
 
 key : Key
 key = record { bucket = codes "b"; key = codes "k" }
 
 whole : What → Ask
-whole what = record { what = what; head_only = false }
+whole what = record { what = what; head_only = false; if_none_match = None }
 
 by_head : What → Ask
-by_head what = record { what = what; head_only = true }
+by_head what = record { what = what; head_only = true; if_none_match = None }
+
+-- what a client asks that has these tags
+knowing : List ℕ → What → Ask
+knowing tags what = record { what = what; head_only = false; if_none_match = Some tags }
+
+first : Dot
+first = record { vnode = 0; n = 1 }
+
+gone : List Sibling
+gone = record { dot = first; content = Tombstone } ∷ []
+
+all_gone : List Sibling
+all_gone = record { dot = first; content = Tombstone } ∷ record { dot = record { vnode = 1; n = 1 }; content = Tombstone } ∷ []
 
 two : List Sibling
 two =
@@ -111,11 +125,52 @@ unfolding digits key by_head print_answer
 one_value = refl
 
 entity_tags :
-    (shown_etag Text clock two ≡ Some (codes "\"" ++ token clock ++ codes "\""))
-    × (shown_etag Parts clock two ≡ Some (codes "\"" ++ token clock ++ codes "-parts\""))
-    × (shown_etag (One (codes "1-1")) clock third ≡ Some (codes "\"1-1\"")) × (shown_etag (One (codes "0-2")) clock third ≡ None)
+    (etag_of clock (found_of Text two) ≡ Some (codes "\"" ++ token clock ++ codes "\""))
+    × (etag_of clock (found_of Parts two) ≡ Some (codes "\"" ++ token clock ++ codes "-parts\""))
+    × (etag_of clock (found_of (One (codes "1-1")) third) ≡ Some (codes "\"1-1\"")) × (etag_of clock (found_of (One (codes "0-2")) third) ≡ None)
 unfolding digits two third
 entity_tags = (refl, ap (λ l. Some (34 ∷ l)) (append_assoc (token clock) (codes "-parts") (34 ∷ [])), refl, refl)
+
+-- tombstones alone are shown as nothing, and so is one by its tag; a value beside a tombstone is a sibling
+found_deleted :
+    (found_of Text gone ≡ deleted) × (found_of Parts all_gone ≡ deleted) × (found_of (One (codes "1-1")) all_gone ≡ deleted)
+    × (found_of (One (codes "2-1")) all_gone ≡ nothing) × (found_of Text third ≡ listed third)
+unfolding digits first gone all_gone third
+found_deleted = (refl, refl, refl, refl, refl)
+
+tombstones_alone : answer 3 (whole (Call (Get key 2 0) Text)) (Got (Ok (record { siblings = all_gone; clock = [] }))) false
+    ≡ line (codes "HTTP/1.1 404 Not Found") ++ line (codes "Content-Type: text/plain") ++ line (codes "Content-Length: 10") ++ own_fields
+    ++ line (codes "Vary: Accept") ++ line (codes "X-Riak-Deleted: true") ++ line [] ++ codes "not found" ++ 10 ∷ []
+unfolding digits key whole first all_gone print_answer
+tombstones_alone = refl
+
+-- the tags of a list: strong or weak, between commas and blanks, or `*`; a part of a tag is none
+tag_lists :
+    (lists_tag (codes "\"0-1\"") (codes "\"0-1\"") ≡ true) × (lists_tag (codes "\"0-2\",W/\"0-1\"") (codes "\"0-1\"") ≡ true)
+    × (lists_tag (codes "\"0-2\" ,\t\"0-1\"") (codes "\"0-1\"") ≡ true) × (lists_tag (codes "*") (codes "\"0-1\"") ≡ true)
+    × (lists_tag (codes "\"0-11\", 0-1, w/\"0-1\"") (codes "\"0-1\"") ≡ false) × (lists_tag [] (codes "\"0-1\"") ≡ false)
+    × (lists_tag (codes "*, *") (codes "\"0-1\"") ≡ false)
+tag_lists = (refl, refl, refl, refl, refl, refl, refl)
+
+-- who has a value isn't shown it again, and who has another is; nobody has what isn't there
+known_value : answer 3 (knowing (codes "\"0-1\"") (Call (Get key 2 0) Text))
+    (Got (Ok (record { siblings = record { dot = first; content = Value (codes "text/plain") (codes "a") } ∷ []; clock = [] }))) false
+    ≡ line (codes "HTTP/1.1 304 Not Modified") ++ own_fields ++ line (codes "ETag: \"0-1\"") ++ line (codes "Vary: Accept") ++ line []
+unfolding digits key knowing first print_answer
+known_value = refl
+
+another_value : answer 3 (knowing (codes "\"1-1\"") (Call (Get key 2 0) Text))
+    (Got (Ok (record { siblings = record { dot = first; content = Value (codes "text/plain") (codes "a") } ∷ []; clock = [] }))) false
+    ≡ line (codes "HTTP/1.1 200 OK") ++ line (codes "Content-Type: text/plain") ++ line (codes "Content-Length: 1") ++ own_fields
+    ++ line (codes "ETag: \"0-1\"") ++ line (codes "Vary: Accept") ++ line [] ++ codes "a"
+unfolding digits key knowing first print_answer
+another_value = refl
+
+nothing_known : answer 3 (knowing (codes "*") (Call (Get key 2 0) Text)) (Got (Ok (record { siblings = gone; clock = [] }))) false
+    ≡ line (codes "HTTP/1.1 404 Not Found") ++ line (codes "Content-Type: text/plain") ++ line (codes "Content-Length: 10") ++ own_fields
+    ++ line (codes "Vary: Accept") ++ line (codes "X-Riak-Deleted: true") ++ line [] ++ codes "not found" ++ 10 ∷ []
+unfolding digits key knowing first gone print_answer
+nothing_known = refl
 
 options : answer 3 (whole (Options route.Hook)) Nothing false
     ≡ line (codes "HTTP/1.1 204 No Content") ++ line (codes "Allow: PUT, DELETE, OPTIONS") ++ own_fields ++ line []

@@ -1,6 +1,6 @@
 -- The answer to each request, and its bytes (RFC 9112, sections 4 to 6; Riak KV documentation, HTTP API; this store's profile).
-use Rattle.std.specs.Prelude.{ℕ, Bool, ◌||◌, ◌==◌, if◌then◌else◌, bytes_eq, List, [], ◌∷◌, ◌++◌, length, codes, Option, Some, None, Result, Ok, Err, decimal}
-use Rattle.std.specs.List.{flat_map, find, list_any}
+use Rattle.std.specs.Prelude.{ℕ, Bool, false, true, ◌||◌, ◌==◌, if◌then◌else◌, bytes_eq, List, [], ◌∷◌, ◌++◌, length, codes, Option, Some, None, Result, Ok, Err, decimal}
+use Rattle.std.specs.List.{flat_map, find, list_all, list_any}
 use Rattle.std.specs.Char.{is_ascii_alphanumeric}
 use Rattle.percent_encoding.specs.Percent.{percent_encode_byte}
 use Rattle.dvv.specs.declared.Dot.{Dot}
@@ -40,6 +40,7 @@ use Rattle.http_response.specs.declared.reply.Reply.TheVariants.{Nothing, Got, S
 use Rattle.http_response.specs.declared.reply.Bound.{Bound}
 use Rattle.http_response.specs.declared.field.Telling.{Telling}
 use Rattle.http_response.specs.Parts.{line, field_line, tag_of, boundary_of, parts_body}
+use Rattle.http_response.specs.Known.{lists_tag}
 
 -- an answer: its status, its fields, and its body (none has neither type nor length). Where methods are told, these are all of a route
 pub record Answer : Type 0 where
@@ -50,6 +51,7 @@ pub record Answer : Type 0 where
   pub allow : Option (List ℕ)
   pub etag : Option (List ℕ)
   pub vary : Option (List ℕ)
+  pub deleted : Bool
   pub body : Option (List ℕ)
 
 abbrev pub length_of : Option (List ℕ) → Option (List ℕ)
@@ -63,6 +65,10 @@ or_nothing (Some body) = body
 -- `close`, where the connection ends
 abbrev pub closing : Bool → Option (List ℕ)
 closing ends = if ends then Some (codes "close") else None
+
+-- `true`, where tombstones alone are found
+abbrev pub deletion : Bool → Option (List ℕ)
+deletion deleted = if deleted then Some (codes "true") else None
 
 -- the fields of each answer: no browser is to take a value for another type than it has (Fetch Standard, 3.6), and who answers (RFC 9110, 10.2.4)
 abbrev pub own_fields : List ℕ
@@ -79,19 +85,19 @@ print_answer a how =
     ++ field_line (codes "Content-Type") a.media ++ field_line (codes "X-Riak-Vclock") a.vclock
     ++ field_line (codes "X-Riak-Tag") a.tag ++ field_line (codes "Connection") (closing how.ends)
     ++ field_line (codes "Content-Length") (length_of a.body) ++ field_line (codes "Allow") a.allow ++ own_fields
-    ++ field_line (codes "ETag") a.etag ++ field_line (codes "Vary") a.vary ++ line []
+    ++ field_line (codes "ETag") a.etag ++ field_line (codes "Vary") a.vary ++ field_line (codes "X-Riak-Deleted") (deletion a.deleted) ++ line []
     ++ shown_body how.head_only a.body
 
 -- a status and a text
 abbrev pub told : List ℕ → List ℕ → Answer
-told status words = record { status = status; media = Some (codes "text/plain"); vclock = None; tag = None; allow = None; etag = None; vary = None; body = Some words }
+told status words = record { status = status; media = Some (codes "text/plain"); vclock = None; tag = None; allow = None; etag = None; vary = None; deleted = false; body = Some words }
 
 -- a status and one line of text
 abbrev pub line_told : List ℕ → List ℕ → Answer
 line_told status words = told status (words ++ 10 ∷ [])
 
 abbrev pub empty_answer : Answer
-empty_answer = record { status = codes "204 No Content"; media = None; vclock = None; tag = None; allow = None; etag = None; vary = None; body = None }
+empty_answer = record { status = codes "204 No Content"; media = None; vclock = None; tag = None; allow = None; etag = None; vary = None; deleted = false; body = None }
 
 -- the methods of a route (RFC 9110, 10.2.1)
 abbrev pub methods_of : Route → List ℕ
@@ -230,15 +236,6 @@ props_text copies bucket bound = bound_text copies bound ++ always_text bucket
 abbrev pub not_found : Answer
 not_found = line_told (codes "404 Not Found") (codes "not found")
 
--- one content as the answer
-abbrev pub content_answer : Content → Answer
-content_answer (Value media bytes) = record { status = codes "200 OK"; media = Some media; vclock = None; tag = None; allow = None; etag = None; vary = None; body = Some bytes }
-content_answer Tombstone = not_found
-
-abbrev pub sibling_answer : Option Sibling → Answer
-sibling_answer None = not_found
-sibling_answer (Some s) = content_answer s.content
-
 abbrev pub choices : List ℕ
 choices = codes "300 Multiple Choices"
 
@@ -250,30 +247,49 @@ tags_text siblings = codes "Siblings:" ++ 10 ∷ flat_map (λ s. tag_of s.dot ++
 abbrev pub mixed_type : ℕ → List ℕ
 mixed_type boundary = codes "multipart/mixed; boundary=s" ++ decimal boundary
 
--- several siblings: their tags, or all of them in parts
-abbrev pub several_answer : Form → List Sibling → Answer
-several_answer Parts siblings = record {
-  status = choices;
-  media = Some (mixed_type (boundary_of siblings));
-  vclock = None;
-  tag = None;
-  allow = None;
-  etag = None;
-  vary = None;
-  body = Some (parts_body (boundary_of siblings) siblings);
-}
-several_answer Text siblings = told choices (tags_text siblings)
-several_answer (One tag) siblings = told choices (tags_text siblings)
+-- what a read finds to show: nothing; tombstones alone; one value, with the event of its write; or several siblings, as a list of their tags or in parts
+pub data Found : Type 0 where
+  nothing : Found
+  deleted : Found
+  one : Dot → List ℕ → List ℕ → Found
+  listed : List Sibling → Found
+  in_parts : List Sibling → Found
 
--- what a read shows
-abbrev pub shown : Form → List Sibling → Answer
-shown (One tag) siblings = sibling_answer (find (λ s. bytes_eq (tag_of s.dot) tag) siblings)
-shown Text [] = not_found
-shown Text (s ∷ []) = content_answer s.content
-shown Text (s ∷ t ∷ siblings) = several_answer Text (s ∷ t ∷ siblings)
-shown Parts [] = not_found
-shown Parts (s ∷ []) = content_answer s.content
-shown Parts (s ∷ t ∷ siblings) = several_answer Parts (s ∷ t ∷ siblings)
+abbrev pub found_content : Dot → Content → Found
+found_content dot (Value media bytes) = one dot media bytes
+found_content dot Tombstone = deleted
+
+abbrev pub found_sibling : Option Sibling → Found
+found_sibling None = nothing
+found_sibling (Some s) = found_content s.dot s.content
+
+abbrev pub is_tombstone : Content → Bool
+is_tombstone (Value media bytes) = false
+is_tombstone Tombstone = true
+
+-- tombstones alone, or several siblings that are shown so
+abbrev pub found_several : (List Sibling → Found) → List Sibling → Found
+found_several shows siblings = if list_all (λ s. is_tombstone s.content) siblings then deleted else shows siblings
+
+-- what is found among all siblings, where several are shown so
+abbrev pub found_among : (List Sibling → Found) → List Sibling → Found
+found_among shows [] = nothing
+found_among shows (s ∷ []) = found_content s.dot s.content
+found_among shows (s ∷ t ∷ siblings) = found_several shows (s ∷ t ∷ siblings)
+
+-- what is found of a key: the sibling of a tag, or all of them
+abbrev pub found_of : Form → List Sibling → Found
+found_of (One tag) siblings = found_sibling (find (λ s. bytes_eq (tag_of s.dot) tag) siblings)
+found_of Text siblings = found_among listed siblings
+found_of Parts siblings = found_among in_parts siblings
+
+-- what is shown of it
+abbrev pub shown : Found → Answer
+shown nothing = not_found
+shown deleted = not_found
+shown (one dot media bytes) = record (told (codes "200 OK") bytes) { media = Some media }
+shown (listed siblings) = told choices (tags_text siblings)
+shown (in_parts siblings) = record (told choices (parts_body (boundary_of siblings) siblings)) { media = Some (mixed_type (boundary_of siblings)) }
 
 -- the context of a read, unless its clock is empty
 abbrev pub vclock_of : List Dot → Option (List ℕ)
@@ -291,33 +307,47 @@ list_tag context = quoted (token context)
 abbrev pub parts_tag : List Dot → List ℕ
 parts_tag context = quoted (token context ++ codes "-parts")
 
--- that of one value: the tag of its write
-abbrev pub written_etag : Dot → Content → Option (List ℕ)
-written_etag dot (Value media bytes) = Some (quoted (tag_of dot))
-written_etag dot Tombstone = None
+-- the entity tag of what is shown, with this context: of one value that of its write
+abbrev pub etag_of : List Dot → Found → Option (List ℕ)
+etag_of context nothing = None
+etag_of context deleted = None
+etag_of context (one dot media bytes) = Some (quoted (tag_of dot))
+etag_of context (listed siblings) = Some (list_tag context)
+etag_of context (in_parts siblings) = Some (parts_tag context)
 
-abbrev pub sibling_etag : Option Sibling → Option (List ℕ)
-sibling_etag None = None
-sibling_etag (Some s) = written_etag s.dot s.content
+abbrev pub is_deleted : Found → Bool
+is_deleted nothing = false
+is_deleted deleted = true
+is_deleted (one dot media bytes) = false
+is_deleted (listed siblings) = false
+is_deleted (in_parts siblings) = false
 
--- the entity tag of what a read shows
-abbrev pub shown_etag : Form → List Dot → List Sibling → Option (List ℕ)
-shown_etag (One tag) context siblings = sibling_etag (find (λ s. bytes_eq (tag_of s.dot) tag) siblings)
-shown_etag Text context [] = None
-shown_etag Text context (s ∷ []) = written_etag s.dot s.content
-shown_etag Text context (s ∷ t ∷ siblings) = Some (list_tag context)
-shown_etag Parts context [] = None
-shown_etag Parts context (s ∷ []) = written_etag s.dot s.content
-shown_etag Parts context (s ∷ t ∷ siblings) = Some (parts_tag context)
+-- what is shown, with its context and its entity tag, and that `Accept` chooses what is shown (RFC 9110, 12.5.5)
+abbrev pub found_answer : List Dot → Found → Answer
+found_answer context found =
+    record (shown found) { vclock = vclock_of context; etag = etag_of context found; vary = Some (codes "Accept"); deleted = is_deleted found }
 
--- the answer to a read: what it shows, its context and its entity tag, and that `Accept` chooses what is shown (RFC 9110, 12.5.5)
+-- the answer to a read
 abbrev pub read_answer : Form → List Dot → List Sibling → Answer
-read_answer form context siblings =
-    record (shown form siblings) { vclock = vclock_of context; etag = shown_etag form context siblings; vary = Some (codes "Accept") }
+read_answer form context siblings = found_answer context (found_of form siblings)
 
-abbrev pub got_answer : Form → Result State QuorumFault → Answer
-got_answer form (Ok state) = read_answer form state.clock state.siblings
-got_answer form (Err fault) = quorum_answer fault
+-- the list of a client's entity tags, if it has one, has this one, if there is one
+abbrev pub has_tag : Option (List ℕ) → Option (List ℕ) → Bool
+has_tag None etag = false
+has_tag (Some list) None = false
+has_tag (Some list) (Some etag) = lists_tag list etag
+
+-- what the client has is not shown again (RFC 9110, 15.4.5)
+abbrev pub not_modified : Answer → Answer
+not_modified a = record empty_answer { status = codes "304 Not Modified"; vclock = a.vclock; etag = a.etag; vary = a.vary; deleted = a.deleted }
+
+abbrev pub unless_known : Option (List ℕ) → Answer → Answer
+unless_known tags a = if has_tag tags a.etag then not_modified a else a
+
+-- the answer to a read of a client that has these tags
+abbrev pub got_answer : Form → Option (List ℕ) → Result State QuorumFault → Answer
+got_answer form tags (Ok state) = unless_known tags (read_answer form state.clock state.siblings)
+got_answer form tags (Err fault) = quorum_answer fault
 
 abbrev pub stored_answer : Result Dot QuorumFault → Answer
 stored_answer (Ok dot) = record empty_answer { tag = Some (tag_of dot) }
@@ -337,28 +367,28 @@ bucket_of (call.Remove name) = []
 bucket_of (call.SetProps bucket precommit resolver) = []
 
 module _ (copies : ℕ) where
-  -- the answer to a call
-  abbrev pub call_answer : asked.Call → Form → Reply → Answer
-  call_answer c form Nothing = empty_answer
-  call_answer c form (Got result) = got_answer form result
-  call_answer c form (Stored result) = stored_answer result
-  call_answer c form (Installed (Ok done)) = empty_answer
-  call_answer c form (Installed (Err refusal)) = unfit_answer refusal
-  call_answer c form (Removed (Ok done)) = empty_answer
-  call_answer c form (Removed (Err fault)) = hook_answer (codes "404 Not Found") fault
-  call_answer c form (Props result) = props_answer copies (bucket_of c) result
-  call_answer c form (Set (Ok done)) = empty_answer
-  call_answer c form (Set (Err fault)) = hook_answer unprocessable fault
+  -- the answer to a call of a client that has these tags
+  abbrev pub call_answer : asked.Call → Form → Option (List ℕ) → Reply → Answer
+  call_answer c form tags Nothing = empty_answer
+  call_answer c form tags (Got result) = got_answer form tags result
+  call_answer c form tags (Stored result) = stored_answer result
+  call_answer c form tags (Installed (Ok done)) = empty_answer
+  call_answer c form tags (Installed (Err refusal)) = unfit_answer refusal
+  call_answer c form tags (Removed (Ok done)) = empty_answer
+  call_answer c form tags (Removed (Err fault)) = hook_answer (codes "404 Not Found") fault
+  call_answer c form tags (Props result) = props_answer copies (bucket_of c) result
+  call_answer c form tags (Set (Ok done)) = empty_answer
+  call_answer c form tags (Set (Err fault)) = hook_answer unprocessable fault
 
-  -- the answer to what is asked
-  abbrev pub answer_to : What → Reply → Answer
-  answer_to Resources reply = resources_answer
-  answer_to (Options at) reply = options_answer at
-  answer_to Continue reply = continue_answer
-  answer_to Ping reply = told (codes "200 OK") (codes "OK")
-  answer_to (Call c form) reply = call_answer c form reply
-  answer_to (Refused refusal) reply = refusal_answer refusal
+  -- the answer to what is asked by a client that has these tags
+  abbrev pub answer_to : What → Option (List ℕ) → Reply → Answer
+  answer_to Resources tags reply = resources_answer
+  answer_to (Options at) tags reply = options_answer at
+  answer_to Continue tags reply = continue_answer
+  answer_to Ping tags reply = told (codes "200 OK") (codes "OK")
+  answer_to (Call c form) tags reply = call_answer c form tags reply
+  answer_to (Refused refusal) tags reply = refusal_answer refusal
 
   -- the bytes that answer a request
   abbrev pub answer : Ask → Reply → Bool → List ℕ
-  answer asked reply ends = print_answer (answer_to asked.what reply) (record { ends = ends; head_only = asked.head_only })
+  answer asked reply ends = print_answer (answer_to asked.what asked.if_none_match reply) (record { ends = ends; head_only = asked.head_only })

@@ -1,4 +1,5 @@
 pub mod Parts
 pub mod Marks
+pub mod Known
 pub mod Answer
 pub mod View

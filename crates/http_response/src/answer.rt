@@ -1,21 +1,21 @@
 //! The answer to a request.
 
-ghost use Rattle.std.specs.Prelude.{◌≡◌, ◌++◌, OnOk, IfOk, Ok, Some, None, [], ◌∷◌, length, bytes_eq, if◌then◌else◌};
-ghost use Rattle.std.specs.List.{find};
+ghost use Rattle.std.specs.Prelude.{◌≡◌, ◌++◌, OnOk, IfOk, Ok, Some, None, [], ◌∷◌, length, codes, if◌then◌else◌};
 ghost use Rattle.std.specs.Option.{option_copied};
 ghost use Rattle.bpf_admission.specs.Admissions.{rule_text};
 ghost use Rattle.bpf_verifier.specs.Numbers.{rule_number};
 ghost use Rattle.bpf_image.specs.Image.{text_of};
-ghost use Rattle.http_request.specs.declared.ask.Form.TheVariants.{Parts};
 ghost use Rattle.percent_encoding.specs.Percent as percent;
 ghost use Rattle.quorum.specs.declared.fault.QuorumFault.TheVariants.{Rejected};
 ghost use Rattle.http_response.specs.Answer as spec;
-ghost use Rattle.http_response.specs.Answer.{print_answer, answer};
+ghost use Rattle.http_response.specs.Answer.{print_answer, answer, in_parts};
 ghost use Rattle.http_response.specs.Parts.{tag_of};
-ghost use Rattle.http_response.specs.View.{etag_by, line_of, told_of};
+ghost use Rattle.http_response.specs.View.{found as found_in, line_of, told_of};
 
 use crate::boundary::boundary_of;
-use crate::field::{Answer, Read, Telling, Validator, push_number, push_parts, push_tag};
+use crate::field::{Answer, Read, Telling, push_number, push_parts, push_tag};
+use crate::found::{Found, found_of};
+use crate::known::is_known;
 use crate::parts::push_parts_body;
 use crate::reply::{Bound, Reply};
 use crate::words::{
@@ -26,9 +26,9 @@ use bpf_admission::Refusal as Unfit;
 use bpf_image::ImageFault;
 use bpf_insn::DecodeFault;
 use bpf_verifier::Refused;
-use dvv::{Clock, Dot};
+use dvv::Dot;
 use http_request::{Ask, Call, Form, Route, What};
-use key_state::{Bytes, Content, KeyState, Sibling};
+use key_state::{Bytes, KeyState, Sibling};
 use percent_encoding::percent_encode_byte;
 use quorum::QuorumFault;
 use std::alloc::AllocError;
@@ -54,7 +54,26 @@ pub fn push_answer(
         What::Options(route) => push_methods(out, *route, how),
         What::Continue => push_continue(out, how),
         What::Refused(refusal) => push_line(out, of_refusal(*refusal), how),
-        What::Call(call, form) => push_reply(out, text, Asked { copies, call, form }, reply, how),
+        What::Call(call, form) => {
+            let tags = tags_of(&ask.if_none_match);
+            let asked = Asked {
+                copies,
+                call,
+                form,
+                tags,
+            };
+            push_reply(out, text, asked, reply, how)
+        }
+    }
+}
+
+// The list of a client's entity tags, if it has one.
+fn tags_of(list: &Option<Bytes>) -> Option<&[u8]>
+    ensures { option_copied result ≡ list.now }
+{
+    match list {
+        Some(list) => Some(list.as_slice()),
+        None => None,
     }
 }
 
@@ -139,12 +158,13 @@ fn push_empty(out: &mut Vec<u8>, tag: Option<&[u8]>, how: Telling) -> Result<(),
     push_parts(out, &answer, how)
 }
 
-// A call of a store that has so many copies of a key, and how its answer is shown.
+// A call of a store that has so many copies of a key, how its answer is shown, and the list of the entity tags that the client has.
 #[derive(Clone, Copy)]
 struct Asked<'a> {
     copies: u32,
     call: &'a Call,
     form: &'a Form,
+    tags: Option<&'a [u8]>,
 }
 
 impl<'a> Asked<'a> {
@@ -167,13 +187,13 @@ fn push_reply(
     reply: &Reply,
     how: Telling,
 ) -> Result<(), AllocError>
-    ensures { OnOk result (out.new.items ≡ out.old.items ++ print_answer (spec.call_answer asked.entry.copies asked.entry.call.now asked.entry.form.now reply.now) how) }
+    ensures { OnOk result (out.new.items ≡ out.old.items ++ print_answer (spec.call_answer asked.entry.copies asked.entry.call.now asked.entry.form.now (option_copied asked.entry.tags) reply.now) how) }
 {
     text.clear();
     match reply {
         Reply::Nothing | Reply::Installed(Ok(_)) | Reply::Removed(Ok(_)) | Reply::Set(Ok(_)) =>
             push_empty(out, None, how),
-        Reply::Got(Ok(state)) => push_state(out, text, asked.form, state, how),
+        Reply::Got(Ok(state)) => push_state(out, text, asked, state, how),
         Reply::Got(Err(fault)) | Reply::Stored(Err(fault)) => push_quorum_fault(
             out, text, *fault, how,
         ),
@@ -396,57 +416,56 @@ fn push_json_name(text: &mut Vec<u8>, name: &Option<Bytes>) -> Result<(), AllocE
     }
 }
 
-// Adds what a read shows, with its context unless nothing was ever written.
+// Adds what a read shows, unless the client has it.
 fn push_state(
     out: &mut Vec<u8>,
     text: &mut Vec<u8>,
-    form: &Form,
+    asked: Asked<'_>,
     state: &KeyState,
     how: Telling,
 ) -> Result<(), AllocError>
-    requires { text.old.items ≡ [] }
-    ensures { OnOk result (out.new.items ≡ out.old.items ++ print_answer (spec.got_answer form.now (Ok state.now)) how) }
+    ensures { OnOk result (out.new.items ≡ out.old.items ++ print_answer (spec.got_answer asked.entry.form.now (option_copied asked.entry.tags) (Ok state.now)) how) }
 {
-    push_shown(out, text, form, state.siblings(), state.clock(), how)
-}
-
-// Adds the siblings of a key as they are asked for.
-fn push_shown(
-    out: &mut Vec<u8>,
-    text: &mut Vec<u8>,
-    form: &Form,
-    siblings: &[Sibling],
-    context: &Clock,
-    how: Telling,
-) -> Result<(), AllocError>
-    requires { text.old.items ≡ [] }
-    ensures { OnOk result (out.new.items ≡ out.old.items ++ print_answer (spec.read_answer form.now context.now siblings.now) how) }
-{
-    match (form, siblings) {
-        (Form::One(tag), _) => push_tagged(out, text, siblings, tag.as_slice(), context, how),
-        (_, []) => push_missing(out, context, how),
-        (_, [sibling]) => push_sibling(out, sibling, context, how),
-        (Form::Parts, _) => push_mixed(out, text, siblings, context, how),
-        (Form::Text, _) => push_listed(out, text, siblings, context, how),
+    let found = found_of(text, asked.form, state.siblings())?;
+    let read = found.read(state.clock());
+    if is_known(text, asked.tags, read)? {
+        return push_not_modified(out, read, how);
     }
+    text.clear();
+    push_found(out, text, found, read, how)
 }
 
-// Adds the sibling of a tag.
-fn push_tagged(
+// Adds that the client has what would be shown.
+fn push_not_modified(out: &mut Vec<u8>, read: Read<'_>, how: Telling) -> Result<(), AllocError>
+    ensures { OnOk result (out.new.items ≡ out.old.items ++ print_answer (told_of read.entry (record spec.empty_answer { status = codes "304 Not Modified" })) how) }
+{
+    let answer = Answer {
+        status: b"304 Not Modified",
+        media: None,
+        read: Some(read),
+        tag: None,
+        allow: None,
+        body: None,
+    };
+    push_parts(out, &answer, how)
+}
+
+// Adds what is found of a key.
+fn push_found(
     out: &mut Vec<u8>,
     text: &mut Vec<u8>,
-    siblings: &[Sibling],
-    tag: &[u8],
-    context: &Clock,
+    found: Found<'_>,
+    read: Read<'_>,
     how: Telling,
 ) -> Result<(), AllocError>
-    ensures { OnOk result (out.new.items ≡ out.old.items ++ print_answer (told_of context.now (spec.sibling_etag (find (λ s. bytes_eq (tag_of s.dot) tag.now) siblings.now))
-        (spec.sibling_answer (find (λ s. bytes_eq (tag_of s.dot) tag.now) siblings.now))) how) }
+    requires { text.old.items ≡ [] }
+    ensures { OnOk result (out.new.items ≡ out.old.items ++ print_answer (told_of read.entry (spec.shown (found_in found.entry))) how) }
 {
-    let found = find_tag(text, siblings, tag)?;
     match found {
-        Some(sibling) => push_sibling(out, sibling, context, how),
-        None => push_missing(out, context, how),
+        Found::Nothing | Found::Deleted => push_missing(out, read, how),
+        Found::One { media, bytes, .. } => push_value(out, media, bytes, read, how),
+        Found::Listed(siblings) => push_listed(out, text, siblings, read, how),
+        Found::InParts(siblings) => push_mixed(out, text, siblings, read, how),
     }
 }
 
@@ -455,31 +474,24 @@ fn push_listed(
     out: &mut Vec<u8>,
     text: &mut Vec<u8>,
     siblings: &[Sibling],
-    context: &Clock,
+    read: Read<'_>,
     how: Telling,
 ) -> Result<(), AllocError>
     requires { text.old.items ≡ [] }
-    ensures { OnOk result (out.new.items ≡ out.old.items ++ print_answer (told_of context.now (Some (spec.list_tag context.now)) (spec.told spec.choices (spec.tags_text siblings.now))) how) }
+    ensures { OnOk result (out.new.items ≡ out.old.items ++ print_answer (told_of read.entry (spec.told spec.choices (spec.tags_text siblings.now))) how) }
 {
     push_tags(text, siblings)?;
-    let read = Read {
-        context,
-        validator: Validator::List,
-    };
     push_choices(out, b"text/plain", text.as_slice(), read, how)
 }
 
 // Adds that there is nothing.
-fn push_missing(out: &mut Vec<u8>, context: &Clock, how: Telling) -> Result<(), AllocError>
-    ensures { OnOk result (out.new.items ≡ out.old.items ++ print_answer (told_of context.now None spec.not_found) how) }
+fn push_missing(out: &mut Vec<u8>, read: Read<'_>, how: Telling) -> Result<(), AllocError>
+    ensures { OnOk result (out.new.items ≡ out.old.items ++ print_answer (told_of read.entry spec.not_found) how) }
 {
     let answer = Answer {
         status: NOT_FOUND,
         media: Some(b"text/plain"),
-        read: Some(Read {
-            context,
-            validator: Validator::Nothing,
-        }),
+        read: Some(read),
         tag: None,
         allow: None,
         body: Some(b"not found\n"),
@@ -487,32 +499,25 @@ fn push_missing(out: &mut Vec<u8>, context: &Clock, how: Telling) -> Result<(), 
     push_parts(out, &answer, how)
 }
 
-// Adds a sibling by itself.
-fn push_sibling<'a, 'v>(
+// Adds a value by itself.
+fn push_value<'a, 'v>(
     out: &mut Vec<u8>,
-    sibling: &'a Sibling,
-    context: &'v Clock,
+    media: &'a [u8],
+    bytes: &'a [u8],
+    read: Read<'v>,
     how: Telling,
 ) -> Result<(), AllocError>
-    ensures { OnOk result (out.new.items ≡ out.old.items ++ print_answer (told_of context.now (spec.sibling_etag (Some sibling.now)) (spec.content_answer sibling.now.content)) how) }
+    ensures { OnOk result (out.new.items ≡ out.old.items ++ print_answer (told_of read.entry (record (spec.told (codes "200 OK") bytes.now) { media = Some media.now })) how) }
 {
-    match &sibling.content {
-        Content::Tombstone => push_missing(out, context, how),
-        Content::Value { media, bytes } => {
-            let answer = Answer {
-                status: b"200 OK",
-                media: Some(media.as_slice()),
-                read: Some(Read {
-                    context,
-                    validator: Validator::Write(sibling.dot),
-                }),
-                tag: None,
-                allow: None,
-                body: Some(bytes.as_slice()),
-            };
-            push_parts(out, &answer, how)
-        }
-    }
+    let answer = Answer {
+        status: b"200 OK",
+        media: Some(media),
+        read: Some(read),
+        tag: None,
+        allow: None,
+        body: Some(bytes),
+    };
+    push_parts(out, &answer, how)
 }
 
 // Adds a body that shows several siblings.
@@ -523,8 +528,7 @@ fn push_choices<'a, 'v>(
     read: Read<'v>,
     how: Telling,
 ) -> Result<(), AllocError>
-    ensures { OnOk result (out.new.items ≡ out.old.items ++ print_answer (told_of read.entry.context.now (etag_by read.entry.validator read.entry.context.now)
-        (record (spec.told spec.choices body.now) { media = Some media.now })) how) }
+    ensures { OnOk result (out.new.items ≡ out.old.items ++ print_answer (told_of read.entry (record (spec.told spec.choices body.now) { media = Some media.now })) how) }
 {
     let answer = Answer {
         status: b"300 Multiple Choices",
@@ -542,21 +546,17 @@ fn push_mixed(
     out: &mut Vec<u8>,
     text: &mut Vec<u8>,
     siblings: &[Sibling],
-    context: &Clock,
+    read: Read<'_>,
     how: Telling,
 ) -> Result<(), AllocError>
     requires { text.old.items ≡ [] }
-    ensures { OnOk result (out.new.items ≡ out.old.items ++ print_answer (told_of context.now (Some (spec.parts_tag context.now)) (spec.several_answer Parts siblings.now)) how) }
+    ensures { OnOk result (out.new.items ≡ out.old.items ++ print_answer (told_of read.entry (spec.shown (in_parts siblings.now))) how) }
 {
     let boundary = boundary_of(text, siblings)?;
     text.clear();
     let media_len = push_mixed_type(text, boundary)?;
     push_parts_body(text, boundary, siblings)?;
     let (media, body) = text.split_at(media_len);
-    let read = Read {
-        context,
-        validator: Validator::Parts,
-    };
     push_choices(out, media, body, read, how)
 }
 
@@ -588,22 +588,4 @@ fn push_tag_line(text: &mut Vec<u8>, sibling: &Sibling) -> Result<(), AllocError
 {
     push_tag(text, sibling.dot)?;
     text.extend_from_slice(b"\n")
-}
-
-// The sibling of a tag.
-fn find_tag<'s>(
-    text: &mut Vec<u8>,
-    siblings: &'s [Sibling],
-    tag: &[u8],
-) -> Result<Option<&'s Sibling>, AllocError>
-    ensures { IfOk result (λ o. option_copied o ≡ find (λ s. bytes_eq (tag_of s.dot) tag.now) siblings.now) }
-{
-    for sibling in siblings {
-        text.clear();
-        push_tag(text, sibling.dot)?;
-        if text.as_slice() == tag {
-            return Ok(Some(sibling));
-        }
-    }
-    Ok(None)
 }

@@ -1,9 +1,10 @@
 //! The pieces of an answer.
 
-ghost use Rattle.std.specs.Prelude.{◌≡◌, ◌++◌, OnOk, Some, codes, decimal};
+ghost use Rattle.std.specs.Prelude.{◌≡◌, ◌++◌, List, OnOk, Some, codes, decimal, is_some};
 ghost use Rattle.std.specs.Option.{option_copied};
+ghost use Rattle.dvv.specs.declared.Dot.{Dot as Event};
 ghost use Rattle.context_token.specs.Token.{token};
-ghost use Rattle.http_response.specs.Answer.{closing, length_of, own_fields, print_answer, quoted, shown_body, vclock_of};
+ghost use Rattle.http_response.specs.Answer.{closing, deletion, length_of, or_nothing, own_fields, print_answer, quoted, shown_body, vclock_of};
 ghost use Rattle.http_response.specs.Parts.{line, field_line, tag_of};
 ghost use Rattle.http_response.specs.View.{parts_of, context_of, etag_by, read_end};
 
@@ -24,6 +25,8 @@ pub(crate) struct Telling {
 pub(crate) struct Read<'c> {
     pub(crate) context: &'c Clock,
     pub(crate) validator: Validator,
+    /// Tombstones alone are found.
+    pub(crate) deleted: bool,
 }
 
 /// What the entity tag of what is shown of a key is made of (RFC 9110, 8.8.3).
@@ -37,6 +40,15 @@ pub(crate) enum Validator {
     List,
     /// Siblings as parts: the context, and that they are parts.
     Parts,
+}
+
+impl Validator {
+    /// Whether there is an entity tag.
+    pub(crate) fn is_some(self) -> bool
+        ensures { (context : List Event) → result ≡ is_some (etag_by self context) }
+    {
+        !matches!(self, Validator::Nothing)
+    }
 }
 
 /// The parts of an answer; what is told of a key has a lifetime of its own.
@@ -157,42 +169,67 @@ fn push_read_end(out: &mut Vec<u8>, read: Option<Read<'_>>) -> Result<(), AllocE
     }
 }
 
-// Adds the entity tag, where there is one, that `Accept` chose what is shown, and the empty line.
+// Adds the entity tag, where there is one, that `Accept` chose what is shown, whether tombstones alone are found, and the empty line.
 fn push_told_end(out: &mut Vec<u8>, read: Read<'_>) -> Result<(), AllocError>
     ensures { OnOk result (out.new.items ≡ out.old.items ++ read_end (Some read.entry)) }
 {
     push_etag(out, read)?;
-    out.extend_from_slice(b"Vary: Accept\r\n\r\n")?;
+    out.extend_from_slice(b"Vary: Accept\r\n")?;
+    push_deletion(out, read.deleted)?;
+    out.extend_from_slice(b"\r\n")?;
     Ok(())
 }
 
-// Adds the entity tag, where there is one.
+// Adds the line that tells that tombstones alone are found, where it is so.
+fn push_deletion(out: &mut Vec<u8>, deleted: bool) -> Result<(), AllocError>
+    ensures { OnOk result (out.new.items ≡ out.old.items ++ field_line (codes "X-Riak-Deleted") (deletion deleted)) }
+{
+    if deleted {
+        push_field(out, b"X-Riak-Deleted", Some(b"true"))?;
+    }
+    Ok(())
+}
+
+// Adds the entity tag, where there is one, as a line.
 fn push_etag(out: &mut Vec<u8>, read: Read<'_>) -> Result<(), AllocError>
     ensures { OnOk result (out.new.items ≡ out.old.items ++ field_line (codes "ETag") (etag_by read.entry.validator read.entry.context.now)) }
+{
+    if !read.validator.is_some() {
+        return Ok(());
+    }
+    out.extend_from_slice(b"ETag: ")?;
+    push_entity_tag(out, read)?;
+    out.extend_from_slice(b"\r\n")?;
+    Ok(())
+}
+
+/// Adds the entity tag, where there is one.
+pub(crate) fn push_entity_tag(out: &mut Vec<u8>, read: Read<'_>) -> Result<(), AllocError>
+    ensures { OnOk result (out.new.items ≡ out.old.items ++ or_nothing (etag_by read.entry.validator read.entry.context.now)) }
 {
     match read.validator {
         Validator::Nothing => Ok(()),
         Validator::Write(dot) => push_write_tag(out, dot),
-        Validator::List => push_context_tag(out, read.context, b"\"\r\n"),
-        Validator::Parts => push_context_tag(out, read.context, b"-parts\"\r\n"),
+        Validator::List => push_context_tag(out, read.context, b"\""),
+        Validator::Parts => push_context_tag(out, read.context, b"-parts\""),
     }
 }
 
 // Adds the entity tag of one value.
 fn push_write_tag(out: &mut Vec<u8>, dot: Dot) -> Result<(), AllocError>
-    ensures { OnOk result (out.new.items ≡ out.old.items ++ field_line (codes "ETag") (Some (quoted (tag_of dot)))) }
+    ensures { OnOk result (out.new.items ≡ out.old.items ++ quoted (tag_of dot)) }
 {
-    out.extend_from_slice(b"ETag: \"")?;
+    out.extend_from_slice(b"\"")?;
     push_tag(out, dot)?;
-    out.extend_from_slice(b"\"\r\n")?;
+    out.extend_from_slice(b"\"")?;
     Ok(())
 }
 
 // Adds the entity tag of siblings, up to its end.
 fn push_context_tag(out: &mut Vec<u8>, context: &Clock, end: &[u8]) -> Result<(), AllocError>
-    ensures { OnOk result (out.new.items ≡ out.old.items ++ (codes "ETag: \"" ++ token context.now ++ end.now)) }
+    ensures { OnOk result (out.new.items ≡ out.old.items ++ (codes "\"" ++ token context.now ++ end.now)) }
 {
-    out.extend_from_slice(b"ETag: \"")?;
+    out.extend_from_slice(b"\"")?;
     context_token::write_to(context, out)?;
     out.extend_from_slice(end)
 }

@@ -7,6 +7,8 @@
 mod answer;
 mod boundary;
 mod field;
+mod found;
+mod known;
 mod laws;
 mod parts;
 mod reply;

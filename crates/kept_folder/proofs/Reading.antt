@@ -1,6 +1,6 @@
 -- Files of vnodes, read one after another, and the logs behind them.
 use Rattle.std.proofs.Common.{◌≡◌, ℕ, ◌+◌, ◌<◌, ◌≤◌, ◌%◌, List, [], ◌∷◌, ◌++◌, true, false, Option, None, Some, refl, sym, ap, subst, ◌∙◌, arith, get_or, if◌then◌else◌, length, take, ⊎_elim, ◌⊎◌, inl, inr, eq-eqb, option_to_list}
-use Rattle.std.specs.Prelude.{max}
+use Rattle.std.specs.Prelude.{IsSome, max}
 use Rattle.std.specs.List.{AllByRecursion}
 use Rattle.std.proofs.lemmas.Bool.{cases_lt, ne_eqb}
 use Rattle.std.proofs.lemmas.List.{append-nil, take_more}
@@ -10,7 +10,8 @@ use Rattle.kept_file.specs.declared.file.Source.{Source}
 use Rattle.kept_file.specs.declared.file.Source.TheVariants.{Log, Vnode}
 use Rattle.record_codec.specs.declared.record.Record.{Record}
 use Rattle.kept_folder.specs.declared.logs.Logs.{Logs}
-use Rattle.kept_folder.specs.Reads.{AreEnded, AreLogs, IsFileIn, IsFoundAt, IsReadAt, IsVnodeIn, name_of, vnodes_in, vnodes_of}
+use Rattle.kept_folder.specs.Numbers.{IsFiled}
+use Rattle.kept_folder.specs.Reads.{AreEnded, AreLogs, IsFileIn, IsFoundAt, IsReadAt, IsThere, IsVnodeIn, name_of, vnodes_in, vnodes_of}
 
 -- a file is that of a vnode with an index below a number
 abbrev IsBelow : ℕ → KeptFile → Type 0
@@ -96,6 +97,25 @@ module _ (finds : List ℕ → Option (List ℕ) → Type 0) where
   pub read_first : (none files : List KeptFile) (found : Option KeptFile) → none ≡ [] → files ≡ none ++ option_to_list found → IsFoundAt finds 0 found → AreRead files 1
   read_first none files found is0 is in_ =
       read_more none files found 0 (omega arith) is (subst (λ (fs : List KeptFile). AreRead fs 0) (sym is0) none_read) in_
+
+  -- there is a file of each of the first vnodes that have one, as is told
+  abbrev pub AreThereTo : Option ℕ → ℕ → Type 0
+  AreThereTo filed n = (index : ℕ) → index < n → IsFiled filed index → IsThere finds index
+
+  found_is : (index : ℕ) (found : Option KeptFile) → IsFoundAt finds index found → IsSome found → IsThere finds index
+  found_is index (Some f) (Some bytes, is, in_) some = (bytes, is)
+  found_is index (Some f) (None, is, in_) some = absurd in_
+  found_is index None (bytes, is, in_) some = absurd cc
+
+  -- and of one vnode more
+  pub there_more : (filed : Option ℕ) (found : Option KeptFile) (n : ℕ) → AreThereTo filed n → IsFoundAt finds n found → (IsFiled filed n → IsSome found) → AreThereTo filed (n + 1)
+  there_more filed found n so is some index lt has =
+      ⊎_elim (λ (less : index < n). so index less has)
+      (λ (past : n ≤ index). let same : n ≡ index = omega (arith, lt, past) in
+      subst (λ (k : ℕ). IsThere finds k) same (found_is n found is (some (subst (λ (k : ℕ). IsFiled filed k) (sym same) has)))) (cases_lt index n)
+
+  pub there_first : (filed : Option ℕ) (found : Option KeptFile) → IsFoundAt finds 0 found → (IsFiled filed 0 → IsSome found) → AreThereTo filed 1
+  there_first filed found is some = there_more filed found 0 (λ index lt has. absurd (omega (arith, lt))) is some
 
 -- ---- logs behind them
 

@@ -5,3 +5,4 @@ pub mod Settings
 pub mod Steps
 pub mod Faults
 pub mod Ends
+pub mod Starts

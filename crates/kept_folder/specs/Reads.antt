@@ -9,6 +9,7 @@ use Rattle.kept_file.specs.declared.file.Source.{Source}
 use Rattle.kept_file.specs.declared.file.Source.TheVariants.{Vnode, Log}
 use Rattle.kept_folder.specs.declared.logs.Logs.{Logs}
 use Rattle.kept_folder.specs.declared.logs.Span.{Span}
+use Rattle.kept_folder.specs.Numbers.{IsFiled}
 use Rattle.kept_folder.specs.Seals.{sealed}
 
 -- the bytes of a file, where there is one
@@ -67,6 +68,14 @@ module _ (finds : List ℕ → Option (List ℕ) → Type 0) where
   -- this was read of the vnode with an index: what its file holds, or that there is no such file
   abbrev pub IsFoundAt : ℕ → Option KeptFile → Type 0
   IsFoundAt index file = (bytes : Option (List ℕ)) × finds (name_of index) bytes × IsFileIn bytes index file
+
+  -- there is a file of the vnode with an index
+  abbrev pub IsThere : ℕ → Type 0
+  IsThere index = (bytes : List ℕ) × finds (name_of index) (Some bytes)
+
+  -- there is one of each vnode that has one, as is told
+  abbrev pub AreThere : Option ℕ → Type 0
+  AreThere filed = (index : ℕ) → index < most_vnodes → IsFiled filed index → IsThere index
 
   -- the records of the vnode with an index are those of its file, and none where there is no such file
   abbrev pub IsReadAt : List KeptFile → ℕ → Type 0

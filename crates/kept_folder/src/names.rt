@@ -5,11 +5,14 @@ ghost use Rattle.kept_folder.specs.Reads.{log_name, name_of};
 
 use std::alloc::{AllocError, Global};
 
-/// The number of the last start.
+/// The number of the last start, and how many vnodes have files.
 pub(crate) const INCARNATION: &str = "incarnation";
 
 /// What a line begins with that has the number of a start.
 pub(crate) const NUMBER_WORD: &str = "number ";
+
+/// What a line begins with that has how many vnodes have files.
+pub(crate) const VNODES_WORD: &str = "vnodes ";
 
 /// What a line begins with that has the seconds from a snapshot to the next.
 pub(crate) const SNAPSHOT_WORD: &str = "snapshot ";

@@ -1,19 +1,20 @@
-//! What a start reads of a folder, and the number that it takes.
+//! What a start reads of a folder, and what it writes there of itself.
 
-ghost use Rattle.std.specs.Prelude.{◌≡◌, ◌⊎◌, ◌<◌, ◌≤◌, ◌/◌, ◌+◌, ◌++◌, [], ℕ, List, Option, Some, IfOk, IfNone, IfSome, MatchOption, OnOk, Contains, codes, max, option_to_list};
+ghost use Rattle.std.specs.Prelude.{◌≡◌, ◌↔◌, ◌⊎◌, ◌<◌, ◌≤◌, ◌/◌, ◌+◌, ◌++◌, [], ℕ, List, Option, None, Some, IfErr, IfOk, IfNone, IfSome, IsSome, IsTrue, OnOk, Contains, codes, max, option_to_list};
 ghost use Rattle.std.specs.List.{AllByRecursion};
 ghost use Rattle.kept_file.specs.Numbers.{IsNamed, all_ids};
-ghost use Rattle.kept_folder.specs.Numbers.{EarlierText, IsLastIn, number_text};
-ghost use Rattle.kept_folder.specs.Reads.{AreAllFiles, IsFileIn, IsFoundAt, IsHeldIn, IsReadAt, IsUnsealed, IsVnodeIn, bytes_in, most_vnodes, vnodes_in as vnodes_from, vnodes_of};
+ghost use Rattle.kept_folder.specs.Numbers.{EarlierText, IsFiled, IsLastIn, filed_text, number_text, start_text};
+ghost use Rattle.kept_folder.specs.Reads.{AreAllFiles, AreThere, IsFileIn, IsFoundAt, IsHeldIn, IsReadAt, IsUnsealed, IsVnodeIn, bytes_in, most_vnodes, name_of, vnodes_in as vnodes_from, vnodes_of};
 ghost use Rattle.kept_folder.specs.Seals.{sealed};
 ghost use Rattle.kept_folder.specs.Settings.{IsSetBy};
+ghost use Rattle.kept_folder.specs.Starts.{HasStart, IsMissing};
 ghost use Rattle.kept_folder.specs.Steps.{IsPut};
 
 use crate::files::{FileFault, Folder};
 use crate::limits::MAX_VNODES;
-use crate::lines::number_in;
+use crate::lines::{line_end, line_of, number_in};
 use crate::logs::{LogFault, Logs, add_logs};
-use crate::names::{HOOKS, INCARNATION, NUMBER_WORD, SETTINGS, name_of};
+use crate::names::{HOOKS, INCARNATION, NUMBER_WORD, SETTINGS, VNODES_WORD, name_of};
 use crate::sealing::{seal, unseal};
 use crate::settings::{Settings, SyncPolicy, USUAL, settings_in};
 use crate::writing::{Unreplaced, WriteFault, replace};
@@ -39,6 +40,9 @@ pub struct Opened {
 pub struct Held {
     /// The number of the last start.
     pub last: Option<u32>,
+    /// So many vnodes have a file, from that with index 0 on, as `incarnation` tells it. A folder of which no snapshot was whole since that is
+    /// told tells nothing.
+    pub filed: Option<u32>,
     /// What is set.
     pub settings: Settings,
     /// The requests that install and bind hooks.
@@ -57,6 +61,7 @@ impl Held {
     {
         Held {
             last: None,
+            filed: None,
             settings: Settings {
                 every: 0,
                 least: 0,
@@ -120,6 +125,11 @@ pub enum OpenFault {
     Misplaced {
         name: &'static str,
     },
+    /// A file of records isn't there, and `incarnation` tells that its vnode has one.
+    #[error("{name}: missing")]
+    Missing {
+        name: &'static str,
+    },
     /// What a file holds isn't what its last line tells of.
     #[error("{name}: damaged")]
     Unsealed {
@@ -159,7 +169,8 @@ impl From<AllocError> for OpenFault {
 
 /// Reads all files of a folder, those of vnodes and logs too, and takes a number: the least above that of the last start and above all that the files name, and no less
 /// than what is set or than `minute`, the minutes since the first of 2026. It is written and forced to the device before anything else is
-/// done. An empty folder is a new store. Nothing is changed where a file is at fault. The files of records are read and taken apart by
+/// done. An empty folder is a new store. Nothing is changed where a file is at fault, or one is missing that a vnode had when a snapshot was
+/// whole. The files of records are read and taken apart by
 /// several threads where there are some; of those at fault the first is told.
 pub fn open<F: Folder + Sync, R: Threads + Sync>(
     alloc: Global,
@@ -167,7 +178,8 @@ pub fn open<F: Folder + Sync, R: Threads + Sync>(
     folder: &mut F,
     minute: u32,
 ) -> Result<Opened, OpenFault>
-    ensures last { IfOk result (λ opened. (found : Option (List ℕ)) × F.finds folder.old (codes "incarnation") found × IsLastIn found opened.held.last) }
+    ensures last { IfOk result (λ opened. (found : Option (List ℕ)) × F.finds folder.old (codes "incarnation") found × IsLastIn found opened.held.last opened.held.filed) }
+    ensures there { IfOk result (λ opened. AreThere (F.finds folder.old) opened.held.filed) }
     ensures next { IfOk result (λ opened. (last : ℕ) → opened.held.last ≡ Some last → last < opened.number) }
     ensures minute { IfOk result (λ opened. minute ≤ opened.number) }
     ensures set { IfOk result (λ opened. opened.held.settings.least ≤ opened.number) }
@@ -181,7 +193,7 @@ pub fn open<F: Folder + Sync, R: Threads + Sync>(
     ensures read { IfOk result (λ opened. (index : ℕ) → index < most_vnodes → IsReadAt (F.finds folder.old) opened.held.files.items index) }
     ensures files { IfOk result (λ opened. AreAllFiles (F.finds folder.old) opened.held.logs opened.held.files.items) }
     ensures vnodes { IfOk result (λ opened. vnodes_of opened.held.files.items ≤ most_vnodes) }
-    ensures put { IfOk result (λ opened. IsPut F.does folder.old (codes "incarnation") (sealed (number_text opened.number)) folder.new) }
+    ensures put { IfOk result (λ opened. IsPut F.does folder.old (codes "incarnation") (sealed (start_text opened.number opened.held.filed)) folder.new) }
 {
     let held = read_all(alloc, rt, folder)?;
     let least = minute.max(held.settings.least);
@@ -189,27 +201,56 @@ pub fn open<F: Folder + Sync, R: Threads + Sync>(
         Ok(number) => number,
         Err(spent) => return Err(OpenFault::Spent(spent)),
     };
-    match take(alloc, folder, number) {
+    match take(alloc, folder, number, held.filed) {
         Ok(()) => Ok(Opened { number, held }),
         Err(fault) => Err(OpenFault::Unwritten(fault)),
     }
 }
 
-/// Writes the number of a start.
-fn take<F: Folder>(alloc: Global, folder: &mut F, number: u32) -> Result<(), WriteFault>
-    ensures { OnOk result (IsPut F.does folder.old (codes "incarnation") (sealed (number_text number)) folder.new) }
+/// Writes the number of a start, and how many vnodes have files, where that is known.
+fn take<F: Folder>(
+    alloc: Global,
+    folder: &mut F,
+    number: u32,
+    filed: Option<u32>,
+) -> Result<(), WriteFault>
+    ensures { OnOk result (IsPut F.does folder.old (codes "incarnation") (sealed (start_text number filed)) folder.new) }
 {
-    let text = format!(in alloc; "{NUMBER_WORD}{number}\n")?;
-    let bytes = seal(alloc, text.as_bytes())?;
+    let bytes = start_bytes(alloc, number, filed)?;
     replace(alloc, folder, INCARNATION, &bytes)
 }
 
-/// Has the number of a start stand in its folder again, where it is lacking: where records are and no number nobody can start.
-pub fn keep_number<F: Folder>(alloc: Global, folder: &mut F, number: u32) -> Result<(), Unreplaced>
-    ensures there { OnOk result ((found : Option (List ℕ)) × F.finds folder.old (codes "incarnation") found
-        × MatchOption found (IsPut F.does folder.old (codes "incarnation") (sealed (number_text number)) folder.new) (λ _. folder.new ≡ folder.old)) }
+/// The bytes of the file that has them.
+fn start_bytes(alloc: Global, number: u32, filed: Option<u32>) -> Result<Vec<u8>, AllocError>
+    ensures { IfOk result (λ bytes. bytes.items ≡ sealed (start_text number filed)) }
 {
-    match take_again(alloc, folder, number) {
+    let mut text = Vec::new(alloc);
+    text.extend_from_slice(line_of(alloc, NUMBER_WORD, number)?.as_bytes())?;
+    push_filed(alloc, &mut text, filed)?;
+    seal(alloc, &text)
+}
+
+/// Adds how many vnodes have files, where that is known.
+fn push_filed(alloc: Global, text: &mut Vec<u8>, filed: Option<u32>) -> Result<(), AllocError>
+    ensures { OnOk result (text.new.items ≡ text.old.items ++ filed_text filed) }
+{
+    match filed {
+        Some(count) => { text.extend_from_slice(line_of(alloc, VNODES_WORD, count)?.as_bytes()) }
+        None => Ok(()),
+    }
+}
+
+/// Has the number of a start stand in its folder, and that so many vnodes have files, each of which is whole there: where records are and no
+/// number nobody can start, and where one of so many files is missing neither. What stands there already isn't written again.
+pub fn keep_start<F: Folder>(
+    alloc: Global,
+    folder: &mut F,
+    number: u32,
+    filed: u32,
+) -> Result<(), Unreplaced>
+    ensures there { OnOk result (HasStart F.finds F.does number filed folder.old folder.new) }
+{
+    match put_start(alloc, folder, number, filed) {
         Ok(()) => Ok(()),
         Err(fault) => Err(Unreplaced {
             name: INCARNATION,
@@ -218,15 +259,30 @@ pub fn keep_number<F: Folder>(alloc: Global, folder: &mut F, number: u32) -> Res
     }
 }
 
-/// Writes the number of a start where it is lacking.
-fn take_again<F: Folder>(alloc: Global, folder: &mut F, number: u32) -> Result<(), WriteFault>
-    ensures there { OnOk result ((found : Option (List ℕ)) × F.finds folder.old (codes "incarnation") found
-        × MatchOption found (IsPut F.does folder.old (codes "incarnation") (sealed (number_text number)) folder.new) (λ _. folder.new ≡ folder.old)) }
+/// The same, with why it isn't done.
+fn put_start<F: Folder>(
+    alloc: Global,
+    folder: &mut F,
+    number: u32,
+    filed: u32,
+) -> Result<(), WriteFault>
+    ensures there { OnOk result (HasStart F.finds F.does number filed folder.old folder.new) }
 {
-    match folder.read(alloc, INCARNATION) {
-        Ok(Some(_)) => Ok(()),
-        Ok(None) => take(alloc, folder, number),
-        Err(fault) => Err(WriteFault::File(fault)),
+    let wanted = start_bytes(alloc, number, Some(filed))?;
+    let found = folder.read(alloc, INCARNATION)?;
+    if holds(&found, &wanted) {
+        return Ok(());
+    }
+    replace(alloc, folder, INCARNATION, &wanted)
+}
+
+/// Whether a file that was read holds these bytes.
+fn holds(found: &Option<Vec<u8>>, wanted: &[u8]) -> bool
+    ensures { IsTrue result → bytes_in found.now ≡ Some wanted.now }
+{
+    match found {
+        Some(bytes) => bytes.as_slice() == wanted,
+        None => false,
     }
 }
 
@@ -240,18 +296,23 @@ fn read_all<F: Folder + Sync, R: Threads + Sync>(
     ensures files { IfOk result (λ held. AreAllFiles (F.finds folder.now) held.logs held.files.items) }
     ensures vnodes { IfOk result (λ held. vnodes_of held.files.items ≤ most_vnodes) }
     ensures settings { IfOk result (λ held. (found : Option (List ℕ)) × F.finds folder.now (codes "settings") found × IsSetBy found held.settings) }
-    ensures last { IfOk result (λ held. (found : Option (List ℕ)) × F.finds folder.now (codes "incarnation") found × IsLastIn found held.last) }
+    ensures last { IfOk result (λ held. (found : Option (List ℕ)) × F.finds folder.now (codes "incarnation") found × IsLastIn found held.last held.filed) }
+    ensures there { IfOk result (λ held. AreThere (F.finds folder.now) held.filed) }
     ensures hooks { IfOk result (λ held. IsHeldIn (F.finds folder.now) (codes "hooks.requests") held.hooks.items) }
 {
     let settings = settings_of(alloc, folder)?;
-    let last = last_in(alloc, folder)?;
+    let Last {
+        number: last,
+        filed,
+    } = last_in(alloc, folder)?;
     let hooks = requests_in(alloc, folder)?;
-    let (files, logs) = files_in(alloc, rt, folder)?;
+    let (files, logs) = files_in(alloc, rt, folder, filed)?;
     if last.is_none() && !files.is_empty() {
         return Err(OpenFault::Numberless);
     }
     Ok(Held {
         last,
+        filed,
         settings,
         hooks,
         files,
@@ -315,16 +376,65 @@ fn requests_in<F: Folder>(alloc: Global, folder: &F) -> Result<Vec<u8>, OpenFaul
     }
 }
 
-/// The number of the last start, if there was one.
-fn last_in<F: Folder>(alloc: Global, folder: &F) -> Result<Option<u32>, OpenFault>
-    ensures { IfOk result (λ last. (found : Option (List ℕ)) × F.finds folder.now (codes "incarnation") found × IsLastIn found last) }
+/// What is told of the last start: nothing where there was none.
+struct Last {
+    number: Option<u32>,
+    /// How many vnodes have files, where that is told.
+    filed: Option<u32>,
+}
+
+/// What is told of the last start.
+fn last_in<F: Folder>(alloc: Global, folder: &F) -> Result<Last, OpenFault>
+    ensures { IfOk result (λ last. (found : Option (List ℕ)) × F.finds folder.now (codes "incarnation") found × IsLastIn found last.number last.filed) }
 {
     let Some(text) = sealed_in(alloc, folder, INCARNATION)? else {
-        return Ok(None);
+        return Ok(Last {
+            number: None,
+            filed: None,
+        });
     };
-    match number_of(alloc, &text)? {
-        Some(number) => Ok(Some(number)),
+    match start_in(alloc, &text)? {
+        Some(start) => Ok(Last {
+            number: Some(start.number),
+            filed: start.filed,
+        }),
         None => Err(OpenFault::Unsealed { name: INCARNATION }),
+    }
+}
+
+/// The number that a start took, and how many vnodes have files, where that is told.
+#[derive(Clone, Copy)]
+struct TakenNumber {
+    number: u32,
+    filed: Option<u32>,
+}
+
+/// The number that a text has, and how many vnodes have files, if it has them: the number alone, in either spelling, or a line of each.
+fn start_in(alloc: Global, text: &[u8]) -> Result<Option<TakenNumber>, OpenFault>
+    ensures { IfOk result (λ found. IfSome found (λ start. (text.now ≡ start_text start.number start.filed) ⊎ (EarlierText text.now start.number × (start.filed ≡ None)))) }
+{
+    let (first, rest) = text.split_at(line_end(text));
+    if !rest.is_empty() {
+        return Ok(filed_in(alloc, first, rest)?);
+    }
+    match number_of(alloc, text)? {
+        Some(number) => Ok(Some(TakenNumber {
+            number,
+            filed: None,
+        })),
+        None => Ok(None),
+    }
+}
+
+/// The number in a line, and how many vnodes have files in the next, if they are such lines.
+fn filed_in(alloc: Global, first: &[u8], next: &[u8]) -> Result<Option<TakenNumber>, AllocError>
+    ensures { IfOk result (λ found. IfSome found (λ start. first.now ++ next.now ≡ start_text start.number start.filed)) }
+{
+    let number = number_in(alloc, NUMBER_WORD, first)?;
+    let filed = number_in(alloc, VNODES_WORD, next)?;
+    match (number, filed) {
+        (Some(number), Some(_)) if number <= MAX_NUMBER => Ok(Some(TakenNumber { number, filed })),
+        _ => Ok(None),
     }
 }
 
@@ -351,27 +461,33 @@ fn files_in<F: Folder + Sync, R: Threads + Sync>(
     alloc: Global,
     rt: &R,
     folder: &F,
+    filed: Option<u32>,
 ) -> Result<(Vec<KeptFile>, Option<Logs>), OpenFault>
     ensures read { IfOk result (λ x. (index : ℕ) → index < most_vnodes → IsReadAt (F.finds folder.now) x.0.items index) }
     ensures files { IfOk result (λ x. AreAllFiles (F.finds folder.now) x.1 x.0.items) }
     ensures vnodes { IfOk result (λ x. vnodes_of x.0.items ≤ most_vnodes) }
+    ensures there { IfOk result (λ x. AreThere (F.finds folder.now) filed) }
 {
-    let mut files = vnodes_in(alloc, rt, folder)?;
+    let mut files = vnodes_in(alloc, rt, folder, filed)?;
     let logs = add_logs(alloc, rt, folder, &mut files)?;
     Ok((files, logs))
 }
 
 /// The files of vnodes that there are. That of the first is read and taken apart, and then the others side by side where there are threads for
-/// that: their records take the memory of those of the first that are the same, as nearly all are where each vnode has each key.
+/// that: their records take the memory of those of the first that are the same, as nearly all are where each vnode has each key. There has to
+/// be one of each of so many vnodes as have files.
 fn vnodes_in<F: Folder + Sync, R: Threads + Sync>(
     alloc: Global,
     rt: &R,
     folder: &F,
+    filed: Option<u32>,
 ) -> Result<Vec<KeptFile>, OpenFault>
     ensures read { IfOk result (λ files. (index : ℕ) → index < most_vnodes → IsReadAt (F.finds folder.now) files.items index) }
     ensures files { IfOk result (λ files. AllByRecursion (IsVnodeIn (F.finds folder.now)) files.items) }
+    ensures there { IfOk result (λ files. AreThere (F.finds folder.now) filed) }
 {
-    let first = file_in(alloc, rt, folder, 0, &[])?;
+    let own = file_in(alloc, rt, folder, 0, &[])?;
+    let first = sought(own, 0, filed)?;
     let records = records_read(first.as_ref());
     let others = thread::map_indices(
         rt,
@@ -384,11 +500,42 @@ fn vnodes_in<F: Folder + Sync, R: Threads + Sync>(
     )?;
     let mut files = Vec::with_capacity(alloc, MAX_VNODES)?;
     add(&mut files, first)?;
+    let mut index = 0usize;
     for answer in others {
-        let found = answer?;
+        index = index.saturating_add(1);
+        let read = answer?;
+        let found = sought(read, index, filed)?;
         add(&mut files, found)?;
     }
     Ok(files)
+}
+
+/// What was found of the vnode with an index. The error: nothing was, and its file is one of so many that there are, as is told.
+fn sought(
+    found: Option<KeptFile>,
+    index: usize,
+    filed: Option<u32>,
+) -> Result<Option<KeptFile>, OpenFault>
+    ensures same { IfOk result (λ file. file ≡ found) }
+    ensures there { IfOk result (λ file. IsFiled filed index → IsSome file) }
+    ensures missing { IfErr result (λ why. (found ≡ None) × IsFiled filed index × IsMissing (name_of index) why) }
+{
+    if found.is_none() && is_filed(filed, index) {
+        return Err(OpenFault::Missing {
+            name: name_of(index),
+        });
+    }
+    Ok(found)
+}
+
+/// Whether the vnode with an index is one of so many that have files, as is told.
+fn is_filed(filed: Option<u32>, index: usize) -> bool
+    ensures { IsTrue result ↔ IsFiled filed index }
+{
+    match filed {
+        Some(count) => index < count as usize,
+        None => false,
+    }
 }
 
 /// The records of a file that was read, if there is one.

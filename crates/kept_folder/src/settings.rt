@@ -6,7 +6,7 @@ ghost use Rattle.kept_folder.specs.declared.settings.Line.{Line as OneLine};
 ghost use Rattle.kept_folder.specs.Settings.{IsSetBy, MayStand, Says, sync_or, text_of};
 
 use crate::limits::SNAPSHOT_INTERVAL_S;
-use crate::lines::number_in;
+use crate::lines::{line_end, number_in};
 use crate::names::{
     COPIES_WORD, NUMBER_WORD, SNAPSHOT_WORD, SYNC_ALWAYS, SYNC_EVERY_SECOND, SYNC_NEVER,
 };
@@ -103,19 +103,6 @@ fn written_in(alloc: Global, bytes: &[u8]) -> Result<Option<Written>, AllocError
         left = rest;
     }
     Ok(Some(written))
-}
-
-/// Where the first line of bytes ends; the end where no line does.
-fn line_end(bytes: &[u8]) -> usize
-    ensures inside { result ≤ length bytes.now }
-    ensures some { 0 < length bytes.now → 0 < result }
-{
-    for (place, byte) in bytes.iter().enumerate() {
-        if *byte == b'\n' {
-            return place + 1;
-        }
-    }
-    bytes.len()
 }
 
 /// The line that bytes are, if they are one.

@@ -50,11 +50,6 @@ impl Memory {
     pub fn bytes(&self) -> &[u8] {
         &self.bytes
     }
-
-    /// What a crash may leave but for that, and what one might have left earlier.
-    pub fn outcomes(&self) -> [&[Vec<u8>]; 2] {
-        [&self.others, &self.past]
-    }
 }
 
 /// Adds a file's bytes to the outcomes of a crash.

@@ -5,7 +5,7 @@ ghost use Rattle.peer_routing.specs.Rings.{own_index};
 
 use dvv::{Clock, Dot};
 use key_state::{Content, Key, KeyState, Part};
-use peers::{Answer, PartAnswer, PeerFault, Peers, SummaryAnswer};
+use peers::{Answer, PartAnswer, PeerFault, Peers, SummaryAnswer, fails_within};
 
 /// A server's own vnodes, which are so many from an index of the ring on, those of others, and how many calls on all of them were lost or
 /// refused.
@@ -83,6 +83,21 @@ impl<P: Peers, Q: Peers> Peers for Router<P, Q> {
             None => self.others.put_at(i, key, seen, content),
         };
         self.count_failure(back.is_err());
+        back
+    }
+
+    fn put_and_read_at(
+        &mut self,
+        i: usize,
+        key: &Key,
+        seen: &Clock,
+        content: &Content,
+    ) -> Result<(Dot, Result<Answer, PeerFault>), PeerFault> {
+        let back = match self.own_index(i) {
+            Some(at) => self.own.put_and_read_at(at, key, seen, content),
+            None => self.others.put_and_read_at(i, key, seen, content),
+        };
+        self.count_failure(fails_within(&back));
         back
     }
 

@@ -31,3 +31,8 @@ is_merged (Err fault) = false
 abbrev pub Made : {S : Type 0} → (S → Call → S → Type 0) → S → List Call → S → Type 0
 Made happens old [] new = new ≡ old
 Made {S} happens old (call ∷ calls) new = (mid : S) × happens old call mid × Made happens mid calls new
+
+-- a put, and where it was stored a read of the same key behind it, with what came back of both
+abbrev pub puts_and_reads : ℕ → Key → List Dot → Content → Result (Dot × Result Answer PeerFault) PeerFault → List Call
+puts_and_reads i key seen content (Ok stored) = PutAt i key seen content (Ok stored.0) ∷ StateOf i key stored.1 ∷ []
+puts_and_reads i key seen content (Err fault) = PutAt i key seen content (Err fault) ∷ []

@@ -9,4 +9,4 @@ mod peers;
 
 pub use fault::PeerFault;
 pub use local::Local;
-pub use peers::{Answer, PartAnswer, Peers, SummaryAnswer};
+pub use peers::{Answer, PartAnswer, Peers, SummaryAnswer, fails_within};

@@ -2,6 +2,7 @@
 
 ghost use Rattle.std.specs.Prelude.{◌≡◌, ℕ, IfSome};
 ghost use Rattle.ring.specs.Places.{ring_place};
+ghost use Rattle.peers.specs.Counts.{fails_within};
 
 use crate::fault::PeerFault;
 use dvv::{Clock, Dot};
@@ -40,7 +41,7 @@ pub enum PartAnswer {
 
 /// Vnodes that may be out of reach, by their indexes. A call on an index that has no vnode is lost.
 pub trait Peers {
-    ghost use Rattle.peers.specs.Calls.{Call, PutAt, MergeAt, StateOf, SummaryAt, MergePartAt, KeysOf};
+    ghost use Rattle.peers.specs.Calls.{Call, PutAt, MergeAt, StateOf, SummaryAt, MergePartAt, KeysOf, Made, puts_and_reads};
     ghost use Rattle.peers.specs.Counts.{Counts};
 
     /// From one state, a call may come back so and leave the other.
@@ -77,6 +78,21 @@ pub trait Peers {
     /// Reads at a vnode.
     fn state_of(&mut self, i: usize, key: &Key) -> Result<Answer, PeerFault>
         ensures { happens self.old (StateOf i key.now result) self.new };
+
+    /// Puts at a vnode, and where that was stored reads behind it, so that the state that the put left comes with its dot. The two are
+    /// a put and a read, as if they were made one by one; who holds the vnode meanwhile lets no other call come between them.
+    fn put_and_read_at(
+        &mut self,
+        i: usize,
+        key: &Key,
+        seen: &Clock,
+        content: &Content,
+    ) -> Result<(Dot, Result<Answer, PeerFault>), PeerFault>
+        ensures { Made happens self.old (puts_and_reads i key.now seen.now content.now result) self.new }
+    {
+        let dot = self.put_at(i, key, seen, content)?;
+        Ok((dot, self.state_of(i, key)))
+    }
 
     /// Reads at a vnode the summary of what is held under a key.
     fn summary_at(&mut self, i: usize, key: &Key) -> Result<SummaryAnswer, PeerFault>
@@ -121,4 +137,11 @@ pub trait Peers {
 
     /// No call changes the origin.
     ghost stays: { (old new : Self) (call : Call) → happens old call new → origin new ≡ origin old };
+}
+
+/// Whether a put, or the read behind it, was lost or refused.
+pub fn fails_within(back: &Result<(Dot, Result<Answer, PeerFault>), PeerFault>) -> bool
+    ensures { result ≡ fails_within back.now }
+{
+    !matches!(back, Ok((_, Ok(_))))
 }

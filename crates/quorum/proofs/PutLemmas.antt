@@ -1,5 +1,5 @@
 -- One vnode more of a put's ways.
-use Rattle.std.proofs.Common.{◌≡◌, ℕ, ◌+◌, ◌<◌, List, [], ◌∷◌, ◌++◌, length, get_or, refl, ap, sym, subst, arith, Result, Ok, Err, count_by, is_ok, cond, Bool, true, false, MatchBool}
+use Rattle.std.proofs.Common.{◌≡◌, ℕ, ◌+◌, ◌<◌, List, [], ◌∷◌, ◌++◌, length, get_or, refl, ap, sym, subst, arith, Option, Some, None, Result, Ok, Err, count_by, is_ok, cond, Bool, true, false, MatchBool}
 use Rattle.std.specs.Prelude.{nat_le, if◌then◌else◌}
 use Rattle.std.proofs.lemmas.List.Sums.{sum_by-append}
 use Rattle.dvv.specs.declared.Dot.{Dot}
@@ -10,7 +10,7 @@ use Rattle.key_state.specs.declared.content.Key.{Key}
 use Rattle.peers.specs.declared.peers.Answer.{Answer}
 use Rattle.peers.specs.declared.fault.PeerFault.{PeerFault}
 use Rattle.peers.specs.Calls.{Call, MergeAt, StateOf, Made}
-use Rattle.quorum.specs.Puts.{Brought, PassedOver, Merged, gathers, merges, copies, is_ahead, TriesAgain, AfterRead, AfterStored, AfterPut, AfterFirst}
+use Rattle.quorum.specs.Puts.{Brought, PassedOver, Merged, gathers, merges, copies, is_ahead, put_of, reads_behind, IsReadFor, TriesAgain, AfterRead, AfterStored, AfterPut, AfterFirst}
 use Rattle.peers.proofs.CallLemmas.{made_end, made_append}
 
 merges_end : (key : Key) (answer : Answer) (vnodes : List ℕ) (backs : List (Result Bool PeerFault)) (back : Result Bool PeerFault) → length backs < length vnodes
@@ -69,18 +69,32 @@ copies_end backs back = at_end back (count_by is_ok (backs ++ back ∷ [])) (cou
     at_end (Ok x) m n h = omega arith
     at_end (Err e) m n h = omega arith
 
--- a put whose copy is the only one
-pub alone : (coordinator : ℕ) (others : List ℕ) (key : Key) (w : ℕ) (dot : Dot) (result : Result Dot QuorumFault) → length others ≡ 0
-    → result ≡ (if nat_le w 1 then Ok dot else Err TooFew) → AfterStored coordinator others key w dot [] result
-alone coordinator [] key w dot result none is = (refl, is)
-alone coordinator (i ∷ others) key w dot result none is = absurd (omega arith)
+module _ (coordinator : ℕ) (others : List ℕ) (key : Key) (w : ℕ) (dot : Dot) (own : Option (Result Answer PeerFault)) (result : Result Dot QuorumFault) (read : IsReadFor others (Ok (dot, own))) where
+  -- what follows a put that was stored, and the read behind it
+  abbrev Follows : List Call → Type 0
+  Follows rest = AfterPut coordinator others key w (Ok dot) (reads_behind coordinator key (Ok (dot, own)) ++ rest) result
 
--- a put that goes to others
-pub not_alone : (coordinator : ℕ) (others : List ℕ) (key : Key) (w : ℕ) (dot : Dot) (calls : List Call) (result : Result Dot QuorumFault) → 0 < length others
-    → ((own : Result Answer PeerFault) × (rest : List Call) × (calls ≡ StateOf coordinator key own ∷ rest) × AfterRead coordinator others key w dot own rest result)
-    → AfterStored coordinator others key w dot calls result
-not_alone coordinator [] key w dot calls result some h = absurd (omega arith)
-not_alone coordinator (i ∷ others) key w dot calls result some h = h
+  -- a put whose copy is the only one
+  pub alone : own ≡ None → result ≡ (if nat_le w 1 then Ok dot else Err TooFew) → Follows []
+  alone none told = subst (λ o. AfterStored coordinator others key w dot (reads_behind coordinator key (Ok (dot, o)) ++ []) result) (sym none) (by_others others (subst (λ o. IsReadFor others (Ok (dot, o))) none read))
+    where
+      by_others : (all : List ℕ) → IsReadFor all (Ok (dot, None)) → AfterStored coordinator all key w dot [] result
+      by_others [] is = (refl, told)
+      by_others (i ∷ more) is = absurd is
+
+  -- a put that goes to others
+  pub not_alone : (back : Result Answer PeerFault) (rest : List Call) → own ≡ Some back → AfterRead coordinator others key w dot back rest result → Follows rest
+  not_alone back rest some after =
+      subst (λ o. AfterStored coordinator others key w dot (reads_behind coordinator key (Ok (dot, o)) ++ rest) result) (sym some) (by_others others (subst (λ o. IsReadFor others (Ok (dot, o))) some read) after)
+    where
+      by_others : (all : List ℕ) → IsReadFor all (Ok (dot, Some back)) → AfterRead coordinator all key w dot back rest result → AfterStored coordinator all key w dot (StateOf coordinator key back ∷ rest) result
+      by_others [] is after = absurd is
+      by_others (i ∷ more) is after = (back, rest, refl, after)
+
+-- no read is behind a put that was ahead
+pub ahead_unread : (coordinator : ℕ) (key : Key) (back : Result (Dot × Option (Result Answer PeerFault)) PeerFault) → is_ahead (put_of back) ≡ true → reads_behind coordinator key back ≡ []
+ahead_unread coordinator key (Ok (dot, own)) e = absurd cc
+ahead_unread coordinator key (Err fault) e = refl
 
 -- the calls that follow one, with it in front
 pub one_first : {S : Type 0} (happens : S → Call → S → Type 0) (start mid new : S) (call : Call) (calls : List Call) → happens start call mid → Made happens mid calls new → Made happens start (call ∷ calls) new

@@ -2,11 +2,14 @@
 use Rattle.std.proofs.Common.{◌≡◌, ℕ, zero, suc, ◌+◌, ◌<◌, List, [], ◌∷◌, ◌++◌, length, length-append, take, drop, map, get_or, refl, ap, sym, ◌∙◌, subst, arith, Result, Ok, Err, Bool, true, false, cond}
 use Rattle.std.proofs.lemmas.List.{take_more, append-nil, map-append}
 use Rattle.std.proofs.lemmas.List.Elements.{filter-append}
+use Rattle.dvv.specs.declared.Dot.{Dot}
+use Rattle.key_state.specs.declared.content.Content.{Content}
 use Rattle.key_state.specs.declared.content.Key.{Key}
+use Rattle.key_state.specs.State.{State}
 use Rattle.peers.specs.declared.peers.Answer.{Answer}
 use Rattle.peers.specs.declared.fault.PeerFault.{PeerFault}
-use Rattle.peers.specs.Calls.{Call, MergeAt, Made}
-use Rattle.quorum.specs.Resolves.{is_others, others_of, brings, OneFailed}
+use Rattle.peers.specs.Calls.{Call, PutAt, MergeAt, StateOf, Made, puts_and_reads}
+use Rattle.quorum.specs.Resolves.{is_others, others_of, brings, OneFailed, told_of, AfterCommit}
 use Rattle.peers.proofs.CallLemmas.{made_end}
 
 brings_end : (coordinator : ℕ) (key : Key) (before after : List Answer) (a : Answer) (backs : List (Result Bool PeerFault)) (back : Result Bool PeerFault) → length backs ≡ length before
@@ -76,3 +79,14 @@ module _ (coordinator : ℕ) (answers : List Answer) (i : ℕ) (a : Answer) (lt 
           subst (λ calls. Made happens start calls next) (sym whole) (made_end happens start now next (brings coordinator key (others_of coordinator (take i answers)) backs) (MergeAt coordinator key a.from a.at a.state (Err fault)) made here),
           (changes, refl, omega arith),
         )
+
+-- what a put and the read behind it come to
+abbrev pub told_both : Result (Dot × Result Answer PeerFault) PeerFault → Result State PeerFault
+told_both (Ok stored) = told_of stored.1
+told_both (Err fault) = Err fault
+
+pub both_made : {S : Type 0} (happens : S → Call → S → Type 0) (old new : S) (coordinator : ℕ) (key : Key) (seen : List Dot) (content : Content) (back : Result (Dot × Result Answer PeerFault) PeerFault) (told : Result State PeerFault)
+    → Made happens old (puts_and_reads coordinator key seen content back) new → told ≡ told_both back
+    → (put : Result Dot PeerFault) × (rest : List Call) × Made happens old (PutAt coordinator key seen content put ∷ rest) new × AfterCommit coordinator key put rest told
+both_made happens old new coordinator key seen content (Ok stored) told made is = (Ok stored.0, StateOf coordinator key stored.1 ∷ [], made, (stored.1, refl, is))
+both_made happens old new coordinator key seen content (Err fault) told made is = (Err fault, [], made, (refl, is))

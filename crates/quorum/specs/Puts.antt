@@ -1,5 +1,5 @@
 -- A put at a coordinator, and its way to the other vnodes of the list (Riak KV documentation, writes and quorums).
-use Rattle.std.specs.Prelude.{◌≡◌, ℕ, ◌+◌, ◌≤◌, List, [], ◌∷◌, ◌++◌, Result, Ok, Err, length, count_by, is_ok, nat_le, Bool, true, false, MatchBool, if◌then◌else◌}
+use Rattle.std.specs.Prelude.{◌≡◌, ℕ, ◌+◌, ◌≤◌, List, [], ◌∷◌, ◌++◌, Option, Some, None, Result, Ok, Err, length, count_by, is_ok, nat_le, Bool, true, false, MatchBool, if◌then◌else◌}
 use Rattle.dvv.specs.declared.Dot.{Dot}
 use Rattle.key_state.specs.declared.content.Key.{Key}
 use Rattle.key_state.specs.declared.content.Content.{Content}
@@ -40,6 +40,26 @@ is_ahead (Err (Refused ClockFull)) = false
 is_ahead (Err (Refused MergedClockFull)) = false
 is_ahead (Err (Refused JournalFull)) = false
 is_ahead (Err (Refused NoMemory)) = false
+
+-- what a coordinator's put came to: its dot is told, and where there are other vnodes what the read behind it came to
+abbrev pub put_of : Result (Dot × Option (Result Answer PeerFault)) PeerFault → Result Dot PeerFault
+put_of (Ok stored) = Ok stored.0
+put_of (Err fault) = Err fault
+
+-- the read behind a put that was taken
+abbrev pub reads_behind : ℕ → Key → Result (Dot × Option (Result Answer PeerFault)) PeerFault → List Call
+reads_behind coordinator key (Ok (dot, Some own)) = StateOf coordinator key own ∷ []
+reads_behind coordinator key (Ok (dot, None)) = []
+reads_behind coordinator key (Err fault) = []
+
+-- a coordinator that took a put was read exactly where there are others, whom its state is for
+abbrev pub IsReadFor : List ℕ → Result (Dot × Option (Result Answer PeerFault)) PeerFault → Type 0
+IsReadFor [] (Ok (dot, None)) = Unit {0}
+IsReadFor [] (Ok (dot, Some own)) = ⊥
+IsReadFor [] (Err fault) = Unit {0}
+IsReadFor (i ∷ others) (Ok (dot, None)) = ⊥
+IsReadFor (i ∷ others) (Ok (dot, Some own)) = Unit {0}
+IsReadFor (i ∷ others) (Err fault) = Unit {0}
 
 -- the coordinator and each vnode that answered its merge have a copy
 abbrev pub copies : List (Result Bool PeerFault) → ℕ

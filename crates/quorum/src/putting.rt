@@ -1,16 +1,16 @@
 //! A put: the bucket's pre-commit hook, then the coordinator, then its state to the other vnodes of the list.
 
-ghost use Rattle.std.specs.Prelude.{◌≡◌, ◌+◌, ◌≤◌, ◌<◌, ◌∷◌, List, length, Bool, Option, Some, Result, Ok, Err, IfOk, ◌^◌, nat_le, if◌then◌else◌};
+ghost use Rattle.std.specs.Prelude.{◌≡◌, ◌+◌, ◌≤◌, ◌<◌, ◌∷◌, ◌++◌, List, length, Bool, Option, Some, Result, Ok, Err, IfOk, ◌^◌, nat_le, if◌then◌else◌};
 ghost use Rattle.bpf_verifier.specs.Program.{Program};
 ghost use Rattle.hook_registry.specs.declared.fault.NotSeen.{NotSeen as LookUpFault};
 ghost use Rattle.peers.specs.declared.fault.PeerFault.{PeerFault as Failure};
-ghost use Rattle.peers.specs.Calls.{Call, Made};
+ghost use Rattle.peers.specs.Calls.{Call, PutAt, Made};
 ghost use Rattle.peers.specs.Counts.{HasRisen};
 ghost use Rattle.ring.specs.Places.{AreDifferent};
 ghost use Rattle.quorum.specs.Faults.{fault_of};
 ghost use Rattle.bpf_helpers.specs.declared.sig.Entry.{Entry as Helper};
 ghost use Rattle.quorum.specs.Judged.{AfterJudged, IsJudgedPut, or_same};
-ghost use Rattle.quorum.specs.Puts.{Brought, gathers, merges, copies, AfterPut, IsPut, StoresCopies, is_ahead};
+ghost use Rattle.quorum.specs.Puts.{Brought, gathers, merges, copies, AfterPut, IsPut, StoresCopies, is_ahead, put_of, reads_behind, IsReadFor};
 
 use crate::fault::QuorumFault;
 use crate::hooking::{Hooking, hook_of};
@@ -39,10 +39,11 @@ pub struct PutRequest<'a> {
     pub w: usize,
 }
 
-/// Puts a content at the coordinator, as one who had seen what the request's clock counts, and brings its state to the other vnodes
-/// of the list; where there are none the put is the only call. Where the context is ahead of the coordinator, the others' states are brought to it and the put is tried
-/// once more. An Ok means that at least w vnodes answered that they have a copy, the coordinator among them. The coordinator
-/// and the others are different vnodes.
+/// Puts a content at the coordinator, as one who had seen what the request's clock counts, and brings the state that this left to the
+/// other vnodes of the list. Where there are others, that state comes with the put's dot, by one call; where there are none, the put is
+/// the only call. Where the context is ahead of the coordinator, the others' states are brought to it and the put is tried once more. An
+/// Ok means that at least w vnodes answered that they have a copy, the coordinator among them. The coordinator and the others are
+/// different vnodes.
 ///
 /// The bucket's pre-commit hook, if it has one, first decides on the content and the siblings that are read at the
 /// coordinator; where these don't fit its input window, on the content and those of them that the request's clock doesn't count.
@@ -130,6 +131,23 @@ fn put_content<P: Peers>(peers: &mut P, request: PutRequest<'_>) -> Result<Dot, 
     requires { length request.others.now < 2 ^ 32 }
     ensures { (calls : List Call) × Made P.happens peers.old calls peers.new × IsPut request.entry.coordinator request.entry.others.now request.entry.key.now request.entry.w request.entry.seen.now request.entry.content.now calls result }
 {
+    let first = store(peers, request);
+    if is_ahead(&first) {
+        gather(peers, request.coordinator, request.key, request.others);
+        let second = store(peers, request);
+        return finish(peers, request, second);
+    }
+    finish(peers, request, first)
+}
+
+// What a coordinator that took a put answered: the dot, and where there are other vnodes what the read behind it came to.
+type Stored = (Dot, Option<Result<Answer, PeerFault>>);
+
+// Puts a content at the coordinator. Where there are other vnodes its state is read behind it, by the same call: it is for them.
+fn store<P: Peers>(peers: &mut P, request: PutRequest<'_>) -> Result<Stored, PeerFault>
+    ensures calls { Made P.happens peers.old (PutAt request.entry.coordinator request.entry.key.now request.entry.seen.now request.entry.content.now (put_of result) ∷ reads_behind request.entry.coordinator request.entry.key.now result) peers.new }
+    ensures read { IsReadFor request.entry.others.now result }
+{
     let PutRequest {
         coordinator,
         others,
@@ -138,18 +156,17 @@ fn put_content<P: Peers>(peers: &mut P, request: PutRequest<'_>) -> Result<Dot, 
         content,
         ..
     } = request;
-    let first = peers.put_at(coordinator, key, seen, content);
-    if is_ahead(&first) {
-        gather(peers, coordinator, key, others);
-        let second = peers.put_at(coordinator, key, seen, content);
-        return finish(peers, request, second);
+    if others.is_empty() {
+        let dot = peers.put_at(coordinator, key, seen, content)?;
+        return Ok((dot, None));
     }
-    finish(peers, request, first)
+    let (dot, own) = peers.put_and_read_at(coordinator, key, seen, content)?;
+    Ok((dot, Some(own)))
 }
 
 // Whether a put was refused since its context is ahead.
-fn is_ahead(back: &Result<Dot, PeerFault>) -> bool
-    ensures { result ≡ is_ahead back.now }
+fn is_ahead(back: &Result<Stored, PeerFault>) -> bool
+    ensures { result ≡ is_ahead (put_of back.now) }
 {
     matches!(back, Err(PeerFault::Refused(VnodeFault::ContextAhead)))
 }
@@ -182,21 +199,25 @@ fn spread<P: Peers>(peers: &mut P, key: &Key, answer: &Answer, vnodes: &[usize])
     stored
 }
 
-// After the coordinator stored it: its state goes to the others, if there are any.
-fn replicate<P: Peers>(peers: &mut P, request: PutRequest<'_>, dot: Dot) -> Result<Dot, QuorumFault>
-    requires { length request.others.now < 2 ^ 32 }
-    ensures { (calls : List Call) × Made P.happens peers.old calls peers.new × AfterPut request.entry.coordinator request.entry.others.now request.entry.key.now request.entry.w (Ok dot) calls result }
+// After the coordinator stored it: the state that was read behind it goes to the others, if there are any.
+fn replicate<P: Peers>(
+    peers: &mut P,
+    request: PutRequest<'_>,
+    dot: Dot,
+    own: Option<Result<Answer, PeerFault>>,
+) -> Result<Dot, QuorumFault>
+    requires few { length request.others.now < 2 ^ 32 }
+    requires read { IsReadFor request.others.now (Ok (dot, own)) }
+    ensures { (calls : List Call) × Made P.happens peers.old calls peers.new × AfterPut request.entry.coordinator request.entry.others.now request.entry.key.now request.entry.w (Ok dot) (reads_behind request.entry.coordinator request.entry.key.now (Ok (dot, own)) ++ calls) result }
 {
-    if request.others.is_empty() {
-        return enough(request.w, 1, dot);
-    }
-    match peers.state_of(request.coordinator, request.key) {
-        Ok(answer) => enough(
+    match own {
+        None => enough(request.w, 1, dot),
+        Some(Ok(own)) => enough(
             request.w,
-            spread(peers, request.key, &answer, request.others),
+            spread(peers, request.key, &own, request.others),
             dot,
         ),
-        Err(fault) => Err(quorum_fault(fault)),
+        Some(Err(fault)) => Err(quorum_fault(fault)),
     }
 }
 
@@ -215,13 +236,14 @@ fn enough(w: usize, copies: usize, dot: Dot) -> Result<Dot, QuorumFault>
 fn finish<P: Peers>(
     peers: &mut P,
     request: PutRequest<'_>,
-    back: Result<Dot, PeerFault>,
+    back: Result<Stored, PeerFault>,
 ) -> Result<Dot, QuorumFault>
-    requires { length request.others.now < 2 ^ 32 }
-    ensures { (calls : List Call) × Made P.happens peers.old calls peers.new × AfterPut request.entry.coordinator request.entry.others.now request.entry.key.now request.entry.w back calls result }
+    requires few { length request.others.now < 2 ^ 32 }
+    requires read { IsReadFor request.others.now back }
+    ensures { (calls : List Call) × Made P.happens peers.old calls peers.new × AfterPut request.entry.coordinator request.entry.others.now request.entry.key.now request.entry.w (put_of back) (reads_behind request.entry.coordinator request.entry.key.now back ++ calls) result }
 {
     match back {
-        Ok(dot) => replicate(peers, request, dot),
+        Ok((dot, own)) => replicate(peers, request, dot, own),
         Err(fault) => Err(quorum_fault(fault)),
     }
 }

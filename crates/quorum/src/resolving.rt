@@ -203,7 +203,7 @@ fn commit<P: Peers>(
     }
 }
 
-// Puts the content at the coordinator, and reads there.
+// Puts the content at the coordinator, and reads behind it, by one call.
 fn put_and_read<P: Peers>(
     peers: &mut P,
     coordinator: usize,
@@ -213,11 +213,9 @@ fn put_and_read<P: Peers>(
 ) -> Result<KeyState, PeerFault>
     ensures { (back : Result Dot Failure) × (rest : List Call) × Made P.happens peers.old (PutAt coordinator key.now seen.now content.now back ∷ rest) peers.new × AfterCommit coordinator key.now back rest result }
 {
-    match peers.put_at(coordinator, key, seen, content) {
-        Ok(_) => match peers.state_of(coordinator, key) {
-            Ok(answer) => Ok(answer.state),
-            Err(fault) => Err(fault),
-        },
+    match peers.put_and_read_at(coordinator, key, seen, content) {
+        Ok((_, Ok(own))) => Ok(own.state),
+        Ok((_, Err(fault))) => Err(fault),
         Err(fault) => Err(fault),
     }
 }

@@ -21,7 +21,7 @@ use Rattle.record_codec.proofs.Sizes.{length-body, length-siblings}
 
 -- ---- what fits a state
 
-contents_from : (ss : List Sibling) → AllByRecursion IsSibling ss → AreContents ss
+pub contents_from : (ss : List Sibling) → AllByRecursion IsSibling ss → AreContents ss
 contents_from [] h = tt
 contents_from (s ∷ ss) h = (h.0.1, contents_from ss h.1)
 
@@ -39,7 +39,7 @@ small_counter bound [] vnode h = omega arith
 small_counter bound (entry ∷ entries) vnode h =
     elim (eqb entry.vnode vnode) as (λ b. cond b entry.n (counter entries vnode) ≤ 2 ^ 62) [ true ↦ h.2 | false ↦ small_counter (entry.vnode + 1) entries vnode h.3 ]
 
-siblings_from : (entries : List Dot) (ss : List Sibling) → AreRising 0 entries → AreNarrow entries → AreCovered entries ss → AreContents ss → AllByRecursion IsSibling ss
+pub siblings_from : (entries : List Dot) (ss : List Sibling) → AreRising 0 entries → AreNarrow entries → AreCovered entries ss → AreContents ss → AllByRecursion IsSibling ss
 siblings_from entries [] rising narrow covered contents = tt
 siblings_from entries (s ∷ ss) rising narrow covered contents =
     let some = covered.0.0 in

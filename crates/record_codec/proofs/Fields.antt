@@ -172,7 +172,7 @@ before_trans a b c (inl p) (inr q) = inl (let e = q.0 in omega arith)
 before_trans a b c (inr p) (inl q) = inl (let e = p.0 in omega arith)
 before_trans a b c (inr p) (inr q) = inr (p.0 ∙ q.0, (let x = p.1 in let y = q.1 in omega arith))
 
-abbrev AllAfter : Dot → List Sibling → Type 0
+abbrev pub AllAfter : Dot → List Sibling → Type 0
 AllAfter before ss = AllByRecursion (λ s. IsBefore before s.dot) ss
 
 all_after : (a b : Dot) (ss : List Sibling) → IsBefore a b → AllAfter b ss → AllAfter a ss
@@ -200,7 +200,7 @@ follow_order entries before (s ∷ ss) h =
     let later : AllAfter s.dot ss = subst (λ d. AllAfter d ss) (sym f.2) more.0 in
     ((f.0, all_after before s.dot ss f.0 later), (later, more.1), (f.1, more.2))
 
-order_follow : (entries : List Dot) (before : Dot) (ss : List Sibling) → AllAfter before ss → AreInOrder ss → AreCovered entries ss → Follow (next_sibling entries) before ss
+pub order_follow : (entries : List Dot) (before : Dot) (ss : List Sibling) → AllAfter before ss → AreInOrder ss → AreCovered entries ss → Follow (next_sibling entries) before ss
 order_follow entries before [] after order covered = tt
 order_follow entries before (s ∷ ss) after order covered =
     let a = before_from before s.dot after.0 in
@@ -211,7 +211,7 @@ order_follow entries before (s ∷ ss) after order covered =
 none_before : (d : Dot) → 1 ≤ d.n → IsBefore no_dot d
 none_before d h = elim (d.vnode) as (λ v. (0 < v) ⊎ ((0 ≡ v) × (0 < d.n))) [ zero ↦ inr (refl, omega arith) | suc v ↦ inl (omega arith) ]
 
-all_after_none : (entries : List Dot) (ss : List Sibling) → AreCovered entries ss → AllAfter no_dot ss
+pub all_after_none : (entries : List Dot) (ss : List Sibling) → AreCovered entries ss → AllAfter no_dot ss
 all_after_none entries [] h = tt
 all_after_none entries (s ∷ ss) h = (none_before s.dot h.0.0, all_after_none entries ss h.1)
 

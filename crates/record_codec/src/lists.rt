@@ -1,7 +1,7 @@
 //! Records, one after another, and a record of what may be past its limits.
 
-ghost use Rattle.std.specs.Prelude.{◌≡◌, ◌++◌, ◌∷◌, [], IfErr, IfOk, IsTrue, OnOk};
-ghost use Rattle.key_state.specs.Limits.{IsContent, IsKey};
+ghost use Rattle.std.specs.Prelude.{◌≡◌, ◌↔◌, ◌++◌, ◌∷◌, [], IfErr, IfOk, IsTrue, OnOk};
+ghost use Rattle.key_state.specs.Limits.{IsContent};
 ghost use Rattle.record_codec.specs.Records.{AreContents, IsRecord, spelling};
 ghost use Rattle.record_codec.specs.declared.lists.Unread.TheVariants as unread;
 ghost use Rattle.record_codec.specs.Lists.{AreSpelledBy, IsUnread, record_of};
@@ -11,10 +11,7 @@ use crate::read::read_record;
 use crate::record::Record;
 use crate::sharing::{from_key, share, share_media};
 use crate::write::{has_record, write_record};
-use key_state::{
-    Content, Key, KeyState, MAX_BUCKET_BYTES, MAX_KEY_BYTES, MAX_MEDIA_BYTES, MAX_VALUE_BYTES,
-    Sibling,
-};
+use key_state::{Content, Key, KeyState, MAX_MEDIA_BYTES, MAX_VALUE_BYTES, Sibling};
 use std::alloc::{AllocError, Global};
 
 /// Why bytes are not read as records.
@@ -26,10 +23,10 @@ pub enum Unread {
     NoMemory,
 }
 
-/// Why a state has no record.
+/// Why a state has no record, or something else that is spelled as records are has no spelling.
 #[derive(Clone, Copy)]
 pub enum Unspelled {
-    /// A key, a content or a body is past its limit.
+    /// A key, a content, a number of siblings or a body is past its limit.
     PastLimit,
     /// Memory ran out.
     NoMemory,
@@ -57,24 +54,15 @@ pub fn record_bytes(
     ensures is_record { IfOk result (λ bytes. IsRecord (record_of key.now from at state.now) × (bytes.items ≡ spelling (record_of key.now from at state.now))) }
     ensures listed { IfOk result (λ bytes. AreSpelledBy (record_of key.now from at state.now ∷ []) bytes.items) }
 {
-    if !is_key(key) || !are_contents(state.siblings()) || !has_record(key, at, state) {
+    if !key.is_within_limits() || !are_contents(state.siblings()) || !has_record(key, at, state) {
         return Err(Unspelled::PastLimit);
     }
     Ok(write_record(alloc, key, from, at, state)?)
 }
 
-/// Whether a key is within its limits.
-fn is_key(key: &Key) -> bool
-    ensures { IsTrue result → IsKey key.now }
-{
-    let bucket = key.bucket().len();
-    let name = key.key().len();
-    1 <= bucket && bucket <= MAX_BUCKET_BYTES && 1 <= name && name <= MAX_KEY_BYTES
-}
-
 /// Whether the contents of siblings are within their limits.
-fn are_contents(siblings: &[Sibling]) -> bool
-    ensures { IsTrue result → AreContents siblings.now }
+pub fn are_contents(siblings: &[Sibling]) -> bool
+    ensures { IsTrue result ↔ AreContents siblings.now }
 {
     for sibling in siblings {
         if !is_content(&sibling.content) {
@@ -85,8 +73,8 @@ fn are_contents(siblings: &[Sibling]) -> bool
 }
 
 /// Whether a content is within its limits.
-fn is_content(content: &Content) -> bool
-    ensures { IsTrue result → IsContent content.now }
+pub fn is_content(content: &Content) -> bool
+    ensures { IsTrue result ↔ IsContent content.now }
 {
     match content {
         Content::Value { media, bytes } => {

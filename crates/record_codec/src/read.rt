@@ -25,6 +25,7 @@ use std::alloc::{AllocError, Global};
 /// No event: before each that there is.
 const NO_DOT: Dot = Dot { vnode: 0, n: 0 };
 
+/// A number of two bytes.
 fn u16_at(bytes: &[u8]) -> Result<(u16, &[u8]), WireFault>
     ensures { Gives (λ x. (x.0, x.1.now)) result (number_at w16 bytes.now) }
 {
@@ -34,7 +35,8 @@ fn u16_at(bytes: &[u8]) -> Result<(u16, &[u8]), WireFault>
     }
 }
 
-fn u32_at(bytes: &[u8]) -> Result<(u32, &[u8]), WireFault>
+/// A number of four bytes.
+pub fn u32_at(bytes: &[u8]) -> Result<(u32, &[u8]), WireFault>
     ensures { Gives (λ x. (x.0, x.1.now)) result (number_at w32 bytes.now) }
 {
     match bytes.split_first_chunk::<4>() {
@@ -43,7 +45,8 @@ fn u32_at(bytes: &[u8]) -> Result<(u32, &[u8]), WireFault>
     }
 }
 
-fn u64_at(bytes: &[u8]) -> Result<(u64, &[u8]), WireFault>
+/// A number of eight bytes.
+pub fn u64_at(bytes: &[u8]) -> Result<(u64, &[u8]), WireFault>
     ensures { Gives (λ x. (x.0, x.1.now)) result (number_at w64 bytes.now) }
 {
     match bytes.split_first_chunk::<8>() {
@@ -83,8 +86,10 @@ fn long_text_at(bytes: &[u8], most: usize) -> Result<(&[u8], &[u8]), WireFault>
     taken_at(rest, len as usize, 0, most)
 }
 
+/// The key at the front, and the bytes behind it. The only faults are `NotCanonical`, where no key within its limits is spelled
+/// there, and `NoMemory`; the same holds of what follows here.
 #[tactic(auto, unfolding(crate::specs::Reading::key_at))]
-fn key_at(alloc: Global, bytes: &[u8]) -> Result<(Key, &[u8]), WireFault>
+pub fn key_at(alloc: Global, bytes: &[u8]) -> Result<(Key, &[u8]), WireFault>
     ensures { Gives (λ x. (x.0, x.1.now)) result (key_at bytes.now) }
 {
     let (bucket, rest) = short_text_at(bytes, MAX_BUCKET_BYTES)?;
@@ -92,8 +97,9 @@ fn key_at(alloc: Global, bytes: &[u8]) -> Result<(Key, &[u8]), WireFault>
     Ok((Key::new(alloc, bucket, key)?, rest))
 }
 
+/// The dot at the front.
 #[tactic(auto, unfolding(crate::specs::Reading::dot_at))]
-fn dot_at(bytes: &[u8]) -> Result<(Dot, &[u8]), WireFault>
+pub fn dot_at(bytes: &[u8]) -> Result<(Dot, &[u8]), WireFault>
     ensures { Gives (λ x. (x.0, x.1.now)) result (dot_at bytes.now) }
 {
     let (vnode, rest) = u32_at(bytes)?;
@@ -120,8 +126,9 @@ fn value_of(alloc: Global, media: &[u8], bytes: &[u8]) -> Result<Content, AllocE
     })
 }
 
+/// The content at the front.
 #[tactic(auto, unfolding(crate::specs::Reading::content_at))]
-fn content_at(alloc: Global, bytes: &[u8]) -> Result<(Content, &[u8]), WireFault>
+pub fn content_at(alloc: Global, bytes: &[u8]) -> Result<(Content, &[u8]), WireFault>
     ensures { Gives (λ x. (x.0, x.1.now)) result (content_at bytes.now) }
 {
     match bytes {
@@ -140,8 +147,9 @@ fn sibling_at(alloc: Global, bytes: &[u8]) -> Result<(Sibling, &[u8]), WireFault
     Ok((Sibling { dot, content }, rest))
 }
 
+/// The clock at the front.
 #[tactic(auto, unfolding(crate::specs::Reading::clock_at))]
-fn clock_at(alloc: Global, bytes: &[u8]) -> Result<(Clock, &[u8]), WireFault>
+pub fn clock_at(alloc: Global, bytes: &[u8]) -> Result<(Clock, &[u8]), WireFault>
     ensures { Gives (λ x. (x.0, x.1.now)) result (clock_at bytes.now) }
 {
     let (count, rest) = u16_at(bytes)?;
@@ -222,8 +230,9 @@ fn next_sibling(clock: &Clock, last: Dot, sibling: &Sibling) -> Result<Dot, Wire
     }
 }
 
+/// The state at the front.
 #[tactic(auto, unfolding(crate::specs::Reading::state_at))]
-fn state_at(alloc: Global, bytes: &[u8]) -> Result<(KeyState, &[u8]), WireFault>
+pub fn state_at(alloc: Global, bytes: &[u8]) -> Result<(KeyState, &[u8]), WireFault>
     ensures { Gives (λ x. (x.0, x.1.now)) result (state_at bytes.now) }
 {
     let (clock, rest) = clock_at(alloc, bytes)?;

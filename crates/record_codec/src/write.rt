@@ -4,6 +4,7 @@ ghost use Rattle.std.specs.Prelude.{◌≡◌, ℕ, ◌≤◌, ◌<◌, ◌+◌,
 ghost use Rattle.std.specs.Option.{SomeIff};
 ghost use Rattle.std.specs.List.{flat_map};
 ghost use Rattle.std.specs.Int.{w16, w32, to_be_bytes};
+ghost use Rattle.dvv.specs.Clock.{IsClock};
 ghost use Rattle.key_state.specs.Limits.{IsContent, IsKey};
 ghost use Rattle.key_state.specs.State.{IsState};
 ghost use Rattle.record_codec.specs.Records.{AreContents, AreNarrow, IsRecord, body, clock, content, dot, form_of, key, long_text, mark, place, short_text, sibling, siblings, spelling, state};
@@ -147,7 +148,7 @@ fn room_after_sibling(one: &Sibling, room: usize) -> Option<usize>
 }
 
 /// Adds a key.
-fn put_key(out: &mut Vec<u8>, whole: &Key) -> Result<(), AllocError>
+pub fn put_key(out: &mut Vec<u8>, whole: &Key) -> Result<(), AllocError>
     requires { IsKey whole.now }
     ensures { OnOk result (out.new.items ≡ out.old.items ++ key whole.now) }
 {
@@ -156,9 +157,10 @@ fn put_key(out: &mut Vec<u8>, whole: &Key) -> Result<(), AllocError>
 }
 
 /// Adds the entries of a clock behind their number.
-fn put_clock(out: &mut Vec<u8>, whole: &Clock) -> Result<(), AllocError>
+pub fn put_clock(out: &mut Vec<u8>, whole: &Clock) -> Result<(), AllocError>
     ensures written { OnOk result (out.new.items ≡ out.old.items ++ clock whole.now) }
     ensures narrow { OnOk result (AreNarrow whole.now) }
+    ensures clock { IsClock whole.now }
 {
     let entries = whole.entries();
     out.extend_from_slice(&(entries.len() as u16).to_be_bytes())?;
@@ -177,16 +179,17 @@ fn put_dots(out: &mut Vec<u8>, dots: &[Dot]) -> Result<(), AllocError>
 }
 
 /// Adds a dot.
-fn put_dot(out: &mut Vec<u8>, one: Dot) -> Result<(), AllocError>
+pub fn put_dot(out: &mut Vec<u8>, one: Dot) -> Result<(), AllocError>
     ensures written { OnOk result (out.new.items ≡ out.old.items ++ dot one) }
     ensures narrow { one.vnode < 2 ^ 32 }
+    ensures counter { one.n < 2 ^ 64 }
 {
     out.extend_from_slice(&one.vnode.to_be_bytes())?;
     out.extend_from_slice(&one.n.to_be_bytes())
 }
 
 /// Adds siblings behind their number.
-fn put_siblings(out: &mut Vec<u8>, all: &[Sibling]) -> Result<(), AllocError>
+pub fn put_siblings(out: &mut Vec<u8>, all: &[Sibling]) -> Result<(), AllocError>
     requires few { length all.now < 2 ^ 32 }
     requires contents { AreContents all.now }
     ensures { OnOk result (out.new.items ≡ out.old.items ++ siblings all.now) }
@@ -216,7 +219,7 @@ fn put_sibling(out: &mut Vec<u8>, one: &Sibling) -> Result<(), AllocError>
 }
 
 /// Adds a content.
-fn put_content(out: &mut Vec<u8>, one: &Content) -> Result<(), AllocError>
+pub fn put_content(out: &mut Vec<u8>, one: &Content) -> Result<(), AllocError>
     requires { IsContent one.now }
     ensures { OnOk result (out.new.items ≡ out.old.items ++ content one.now) }
 {

@@ -5,8 +5,6 @@
 mod index;
 mod probe;
 mod slot;
-#[cfg(test)]
-mod tests;
 
 pub use index::Index;
 pub use slot::Fingerprint;

@@ -1,4 +1,4 @@
--- Which programs may run as resolvers. What one decides, and what is then to be written, is hookrun's.
+-- Which programs may run as resolvers. What one decides, and what is then to be written, is hook_run's.
 use Rattle.std.specs.Prelude.{◌≡◌, List}
 use Rattle.bpf_image.specs.declared.image.ImageKind.TheVariants.{Resolver}
 use Rattle.bpf_helpers.specs.declared.sig.Entry.{Entry}

@@ -59,11 +59,13 @@ impl<'a, R: Wait> TurnNotes<'a, R> {
         }
     }
 
-    /// Takes the keys that were noted.
+    /// Takes the keys that were noted, each once.
     fn take_keys(&self) -> Vec<Key> {
         let empty = Vec::new(self.alloc);
-        let mut keys = self.keys.lock(self.rt);
-        mem::replace(&mut *keys, empty)
+        let mut keys = mem::replace(&mut *self.keys.lock(self.rt), empty);
+        keys.sort_unstable();
+        keys.dedup();
+        keys
     }
 
     /// Notes a key.

@@ -77,6 +77,7 @@ fn kept_store(rt: HostRuntime) -> Result<(), Fail> {
         folder: Some(SystemFolder::nowhere(&rt, alloc)),
         held: Held {
             last: Some(LAST),
+            filed: None,
             settings: Settings {
                 every: 0,
                 least: 0,

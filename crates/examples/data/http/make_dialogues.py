@@ -23,6 +23,7 @@ PHRASES = {
     200: "OK",
     204: "No Content",
     300: "Multiple Choices",
+    304: "Not Modified",
     400: "Bad Request",
     403: "Forbidden",
     404: "Not Found",
@@ -128,7 +129,7 @@ def seen(clock, version=2):
 # Answers
 
 
-def answer(status, media=None, clock=None, dot=None, closes=False, body=None, allow=None, etag=None, shows_key=False):
+def answer(status, media=None, clock=None, dot=None, closes=False, body=None, allow=None, etag=None, shows_key=False, deleted=False):
     """An answer: its fields in their order, each where it applies. An empty clock is not told."""
     lines = [f"HTTP/1.1 {status} {PHRASES[status]}"]
     if media is not None:
@@ -148,6 +149,8 @@ def answer(status, media=None, clock=None, dot=None, closes=False, body=None, al
         lines.append(f'ETag: "{etag}"')
     if shows_key:
         lines.append("Vary: Accept")
+    if deleted:
+        lines.append("X-Riak-Deleted: true")
     return "\r\n".join([*lines, "", ""]).encode() + as_bytes(body or "")
 
 
@@ -199,6 +202,16 @@ def value(clock, text, media=TEXT, dot=None):
 
 def not_found(clock=None, closes=False):
     return answer(404, TEXT, clock, closes=closes, body="not found\n", shows_key=True)
+
+
+def deleted(clock):
+    """Tombstones alone."""
+    return answer(404, TEXT, clock, body="not found\n", shows_key=True, deleted=True)
+
+
+def known(clock, etag):
+    """What the client has already."""
+    return answer(304, clock=clock, etag=etag, shows_key=True)
 
 
 def choices(clock, *dots):
@@ -263,8 +276,8 @@ def cart():
     yield request(f"GET {ann.target}"), value({one: 4, two: 1}, "milk, rye, eggs")
     yield request(f"DELETE {ann.target}", seen({one: 4, two: 1}, version=1)), written(one, 5)
     gone = {one: 5, two: 1}
-    yield request(f"GET {ann.target}"), not_found(gone)
-    yield request(f"GET {ann.target}?vtag={tag((one, 5))}"), not_found(gone)
+    yield request(f"GET {ann.target}"), deleted(gone)
+    yield request(f"GET {ann.target}?vtag={tag((one, 5))}"), deleted(gone)
 
     # A write that has not seen the delete stays beside it.
     yield request(f"PUT {ann.target}?at=2&w=all", typed(TEXT), seen({one: 4, two: 1}), body="tea"), written(ann.vnode(2), 1)
@@ -280,7 +293,7 @@ def cart():
     # A delete of what is not there is a write.
     bob = Key("carts", "bob")
     yield request(f"DELETE {bob.target}"), written(bob.vnode(), 1)
-    yield request(f"GET {bob.target}"), not_found({bob.vnode(): 1})
+    yield request(f"GET {bob.target}"), deleted({bob.vnode(): 1})
 
 
 def install(name, image):
@@ -330,7 +343,7 @@ def hooks_of_the_folder():
     yield request(f"GET {home.target}"), value({one: 2, two: 1}, "107")
     # A delete is let through.
     yield request(f"DELETE {home.target}", seen({one: 2, two: 1})), written(one, 3)
-    yield request(f"GET {home.target}"), not_found({one: 3, two: 1})
+    yield request(f"GET {home.target}"), deleted({one: 3, two: 1})
 
     # A resolver that writes a value of its own: the records of both.
     yield install("union", image("union_of_records")), done()
@@ -430,7 +443,7 @@ def shown_to_pre_commits():
     yield bind("b", '{"precommit":"used"}'), done()
     yield install("used", few_slots(PRE_COMMIT, answering(0), in_len=1575)), done()
     yield request(f"DELETE {many.target}"), told(413, "X1")
-    yield request(f"GET {many.target}"), choices({0: 64}, *((0, n) for n in range(1, 65)))
+    yield request(f"GET {many.target}"), deleted({0: 64})
     yield install("used", few_slots(PRE_COMMIT, answering(0), in_len=1576)), done()
     yield request(f"DELETE {many.target}"), told(409, "P2")
     # Where they don't fit it is shown beside those alone that its writer hadn't seen: in 64 bytes beside one of them, in 40 by itself.
@@ -438,12 +451,12 @@ def shown_to_pre_commits():
     yield request(f"DELETE {many.target}", seen({0: 63})), told(413, "X1")
     yield install("used", few_slots(PRE_COMMIT, answering(0), in_len=40)), done()
     yield request(f"DELETE {many.target}", seen({0: 64})), written(0, 65)
-    yield request(f"GET {many.target}"), not_found({0: 65})
+    yield request(f"GET {many.target}"), deleted({0: 65})
     # The first and the last code of a refusal, and answers that are none.
     for r0, fault in [(256, (403, "X3 0")), (511, (403, "X3 255")), (2, (500, "X2")), (512, (500, "X2"))]:
         yield install("used", few_slots(PRE_COMMIT, answering(r0))), done()
         yield request(f"DELETE {many.target}"), told(*fault)
-    yield request(f"GET {many.target}"), not_found({0: 65})
+    yield request(f"GET {many.target}"), deleted({0: 65})
 
 
 def written_by_hooks():
@@ -499,7 +512,7 @@ def said_by_resolvers():
         (answering(256), 128, value(resolved, "a")),
         (answering(256 + 1), 66, value(resolved, "b")),
         (x + answering(1), 128, value(resolved, "x", OCTETS)),
-        (x + answering(2), 128, not_found(resolved)),
+        (x + answering(2), 128, deleted(resolved)),
         (x + answering(0), 128, both),
         (x + answering(7), 128, both),
         (x + answering(256 + 2), 128, both),
@@ -865,7 +878,7 @@ def methods():
     yield by_head(old_key), head_of(value({one: 2, two: 1}, "c"))
     yield request(f"PUT {typed_key}", typed(TEXT), seen({one: 2, two: 1}), body="d"), written(one, 3)
     yield request(f"DELETE {old_key}", seen({one: 3, two: 1})), written(one, 4)
-    yield request(f"GET {key.target}"), not_found({one: 4, two: 1})
+    yield request(f"GET {key.target}"), deleted({one: 4, two: 1})
     yield request("PUT /types/default/buckets/b/props", body='{"props":{}}'), done()
     yield request("GET /types/default/buckets/b/props"), properties("b", None, None)
     yield request(f"GET {typed_key}?r=0"), told(*QUERY)
@@ -1182,7 +1195,7 @@ def reads():
     yield request(f"DELETE {key.target}", seen({one: 1}, version=1)), written(one, 2)
     beside = {one: 2, two: 1}
     yield request(f"GET {key.target}"), choices(beside, (one, 2), (two, 1))
-    yield request(f"{by_tag}{one}-2"), not_found(beside)
+    yield request(f"{by_tag}{one}-2"), deleted(beside)
     closing = parts(beside, {(one, 2): None, (two, 1): "b"}).replace(b"Content-Length", b"Connection: close\r\nContent-Length", 1)
     yield request(f"GET {key.target}", as_parts, "Connection: close"), closing
     yield ping(), NOTHING
@@ -1199,7 +1212,7 @@ def spelled():
     # A delete has no media type, and the first of two contexts counts.
     context_first = f"x-riak-vclock: {context({three: 1})}"
     yield request(f"DELETE {key.target}", "Content-Type:", context_first, "X-Riak-Vclock: AQA"), written(one, 1)
-    yield request(f"GET {key.target}"), not_found({one: 1, three: 1})
+    yield request(f"GET {key.target}"), deleted({one: 1, three: 1})
 
     # Names with escapes, and with a sign for one that begins none.
     escaped = Key("a/b", "%k%2", "/buckets/a%2Fb/keys/%25k%2")
@@ -1240,6 +1253,70 @@ def in_parts():
         shown = parts({one: 1, two: 1}, {(one, 1): "a", (two, 1): second})
         assert f"boundary={boundary}\r\n".encode() in shown and f"Content-Length: {length}\r\n".encode() in shown
         yield request(f"GET {key.target}", "Accept: multipart/mixed"), shown
+
+
+def conditions():
+    """Reads by clients that have something, with the tags that they list; and tombstones, which are nothing to have."""
+    key = Key("b", "k")
+    one, two, three = key.vnode(0), key.vnode(1), key.vnode(2)
+
+    def has(*tags, line=f"GET {key.target}", fields=()):
+        return request(line, f"If-None-Match: {', '.join(tags)}", *fields)
+
+    # Nothing is there, so nobody has it.
+    yield has("*"), not_found()
+    # A value: whoever has it, with others or not, is told so without it, also by HEAD and where it is shown by its tag.
+    yield request(f"PUT {key.target}", typed(TEXT), body="a"), written(one, 1)
+    first = f'"{one}-1"'
+    for tags in [first], ["*"], [f"W/{first}"], ['"x"', first], [f"{first},", '"x"'], ['"x,y"', f"\t{first} "]:
+        yield has(*tags), known({one: 1}, f"{one}-1")
+    yield has(first, line=f"HEAD {key.target}"), known({one: 1}, f"{one}-1")
+    yield has(first, line=f"GET {key.target}?vtag={one}-1"), known({one: 1}, f"{one}-1")
+    yield has(first, fields=["Accept: multipart/mixed"]), known({one: 1}, f"{one}-1")
+    yield request(f"GET {key.target}", f"IF-NONE-MATCH:{first}", 'If-None-Match: "x"'), known({one: 1}, f"{one}-1")
+    # What is no tag of it, and a second field, of which nothing is read.
+    for tags in ['"x"'], [f"{one}-1"], [f'"{one}-11"'], [f'"{one}-'], [f'w/{first}'], ["*", "*"], [""], [f'"{context({one: 1})}"']:
+        yield has(*tags), value({one: 1}, "a")
+    yield request(f"GET {key.target}", 'If-None-Match: "x"', f"If-None-Match: {first}"), value({one: 1}, "a")
+    yield request(f"GET {key.target}", f"If-Match: {first}"), value({one: 1}, "a")
+    # Another write is another value; a write and a delete pass the tags over.
+    yield request(f"PUT {key.target}", typed(TEXT), seen({one: 1}), "If-None-Match: *", body="b"), written(one, 2)
+    yield has(first), value({one: 2}, "b")
+    # Siblings have a tag as a list and one as parts, and each has its own.
+    yield request(f"PUT {key.target}?at=1", typed(TEXT), body="c"), written(two, 1)
+    both = {one: 2, two: 1}
+    texts = {(one, 2): "b", (two, 1): "c"}
+    tag_of_list, tag_of_parts = context(both), f"{context(both)}-parts"
+    parts_wanted = ["Accept: multipart/mixed"]
+    yield has(f'"{tag_of_list}"'), known(both, tag_of_list)
+    yield has(f'"{tag_of_parts}"'), choices(both, *texts)
+    yield has(f'"{tag_of_parts}"', fields=parts_wanted), known(both, tag_of_parts)
+    yield has(f'"{tag_of_list}"', fields=parts_wanted), parts(both, texts)
+    yield has(f'"{one}-2"'), choices(both, *texts)
+    yield has(f'"{two}-1"', line=f"GET {key.target}?vtag={two}-1"), known(both, f"{two}-1")
+    yield has("*", line=f"GET {key.target}?vtag={two}-9"), not_found(both)
+    # A delete beside a value is a sibling, and deletes alone are nothing, one or several.
+    yield request(f"DELETE {key.target}?at=2", seen({one: 2})), written(three, 1)
+    beside = {**both, three: 1}
+    yield request(f"GET {key.target}"), choices(beside, (two, 1), (three, 1))
+    yield request(f"DELETE {key.target}?at=1", seen({two: 1})), written(two, 2)
+    gone = {**beside, two: 2}
+    for fields in [], parts_wanted:
+        yield request(f"GET {key.target}", *fields), deleted(gone)
+    yield request(f"GET {key.target}?vtag={three}-1"), deleted(gone)
+    yield request(f"GET {key.target}?vtag={one}-1"), not_found(gone)
+    yield has("*", f'"{context(gone)}"'), deleted(gone)
+    yield request(f"HEAD {key.target}"), head_of(deleted(gone))
+    # A write that has seen them takes their place, and the connection may end with what the client has.
+    yield request(f"PUT {key.target}", typed(TEXT), seen(gone), body="d"), written(one, 3)
+    yield request(f"GET {key.target}"), value({**gone, one: 3}, "d", dot=(one, 3))
+    last = known({**gone, one: 3}, f"{one}-3").replace(b"X-Content", b"Connection: close\r\nX-Content", 1)
+    yield has("*", fields=["Connection: close"]), last
+    yield ping(), NOTHING
+    # Other resources have no tags.
+    yield NEXT
+    for line, answered in ("GET /ping", pong()), ("GET /", resources()), ("GET /buckets/b/props", properties("b", None, None)):
+        yield has("*", line=line), answered
 
 
 def changes():
@@ -1350,7 +1427,7 @@ def together():
     yield from present(20)
     yield read(other), not_found()
     yield request(f"DELETE {key.target}", seen({one: 1})), written(one, 2)
-    yield from itertools.repeat((read(key), not_found({one: 2})), 3)
+    yield from itertools.repeat((read(key), deleted({one: 2})), 3)
     # Requests that are refused, and others that read no key.
     for query in "r=4", "at=3":
         yield read(other), not_found()
@@ -1394,6 +1471,7 @@ DIALOGUES = {
     "cart": cart,
     "changes": changes,
     "chunks": chunks,
+    "conditions": conditions,
     "expects": expects,
     "hooks": hooks,
     "images": images,

@@ -19,11 +19,11 @@ from make_dialogues import (
     answering,
     bind,
     choices,
+    deleted,
     done,
     few_slots,
     first_key,
     install,
-    not_found,
     ping,
     pong,
     request,
@@ -175,7 +175,7 @@ def deleted_by_another():
     yield 0, put(key, "a"), written(one, 1)
     yield 2, get(key), value({one: 1}, "a")
     yield 1, request(f"DELETE {key.target}", seen({one: 1})), written(one, 2)
-    yield 0, get(key), not_found({one: 2})
+    yield 0, get(key), deleted({one: 2})
     yield 2, put(key, "b", seen({one: 1})), written(one, 3)
     yield 0, get(key), choices({one: 3}, (one, 2), (one, 3))
 

@@ -10,6 +10,7 @@ use crate::tests::working::{WORKERS, four_workers};
 use hook_sharing::{Ground, HookReader, Installer, Opening, Rack, open};
 use shared_prefix::Naming;
 use std::alloc::Global;
+use std::hash::DefaultHasher;
 use std::marker::Brand;
 use std::sync::{Mutex, Wait};
 use std::test::Fail;
@@ -76,5 +77,5 @@ fn under_a_name<J: Naming + Send + Sync, R: Threads + Wait + Sync>(
 
 #[test]
 fn installer_and_workers(rt: HostRuntime) -> Result<(), Fail> {
-    under_a_name::<Brand, HostRuntime>(rt.alloc(), &rt, Opening::new())
+    under_a_name::<Brand, HostRuntime>(rt.alloc(), &rt, Opening::seeded(DefaultHasher::new()))
 }

@@ -33,7 +33,8 @@ loop-at-init g c =
       };
       sums = subst (λ n. AreSums p n 0 c.in-Ok-new.sums) (omega (arith, c.len-slots.ensures, code.ok.0)) (c.in-Ok-new.ensures p refl);
       pairs = c.no_pairs-pairs.ensures;
-      meets = subst (λ n. Meets p (table p) n 0 c.in-Ok-none_yet.meetings) (omega (arith, c.len-slots.ensures, code.ok.0)) (c.in-Ok-none_yet.ensures p (table p));
+      meets = λ second.
+          subst (λ n. Meets p (table p) n 0 c.in-Ok-none_yet.meetings) (let long = c.named_slots.ensures second in omega (arith, long, c.len-slots.ensures, code.ok.0)) (c.in-Ok-none_yet.ensures p (table p));
       here = subst (λ l. IsKnown p.profile l c.entry-first.result) (sym low) c.entry-first.ensures.known;
       taken = subst (λ l. StartsZero p.profile l c.entry-first.result) (sym low) c.entry-first.ensures.known.zeros;
       lows = record { whole = omega (arith, c.in-Ok-vec.lows.ok.0, c.in-Ok-vec.ensures.len, c.len-slots.ensures, code.ok.0); slots = λ k low lt e. absurd (omega arith) };
@@ -58,31 +59,25 @@ advance-requires g c =
       known = λ _. bounded_here p (waiting c.loop-at.rows) c.loop-at.at within c.loop-at.here c.bounds_here-known.result c.loop-at.invariant.pass c.bounds_here-known.ensures;
     }
 
-pub meet-requires : goal.meet-requires
-meet-requires g c =
+pub go_over-requires : goal.go_over-requires
+go_over-requires g c =
+    let p = program_in c.args.program.now in
     let code = c.args.program.now.image.code in
-    let few = c.args.program.now.image.few_slots in
-    let long = c.loop-at.invariant.meets.long in
-    record { few = omega (arith, long, few); within = omega (arith, c.loop-at-test.true, c.len-slots.ensures, code.ok.0, long) }
+    let at = c.loop-at.at in
+    record {
+      within = omega (arith, c.loop-at-test.true, c.len-slots.ensures, code.ok.0);
+      pairs = c.loop-at.invariant.pairs;
+      next = c.in_ok-visit.ensures.pairs ∙ ap (λ s. pairs_next p (slice_get p.code at) s (slice_get (table p) at) c.loop-at.pairs) c.loop-at.invariant.sums.held;
+      old = c.loop-at.invariant.meets;
+    }
 
 pub loop-at-preserved : goal.loop-at-preserved
 loop-at-preserved g c = record {
   pass = c.in_ok-visit.ensures.pass;
   pool = c.in_ok-visit.ensures.pool;
   sums = c.in-Ok-advance.ensures.on;
-  pairs =
-      let p = program_in c.args.program.now in
-      let code = c.args.program.now.image.code in
-      let at = c.loop-at.at in
-      let insn = slice_get_read code.items code.len at c.index-insn.result.now code.ok.0 (omega (arith, c.loop-at-test.true, c.len-slots.ensures, code.ok.0)) c.index-insn.ensures in
-      c.in-Ok-meet.ensures.here p (table p) insn c.loop-at.invariant.pairs
-      (c.in_ok-visit.ensures.pairs ∙ ap (λ s. pairs_next p (slice_get p.code at) s (slice_get (table p) at) c.loop-at.pairs) c.loop-at.invariant.sums.held)
-      (length p.code + 1) c.loop-at.invariant.meets;
-  meets =
-      let p = program_in c.args.program.now in
-      let code = c.args.program.now.image.code in
-      let insn = slice_get_read code.items code.len c.loop-at.at c.index-insn.result.now code.ok.0 (omega (arith, c.loop-at-test.true, c.len-slots.ensures, code.ok.0)) c.index-insn.ensures in
-      c.in-Ok-meet.ensures.follows p (table p) insn c.loop-at.invariant.pairs (length p.code + 1) c.loop-at.invariant.meets;
+  pairs = c.in-Ok-go_over.ensures.here;
+  meets = c.in-Ok-go_over.ensures.follows;
   here = c.in_ok-visit.ensures.here;
   taken = c.in_ok-visit.ensures.taken;
   lows =

@@ -1,4 +1,5 @@
 use Rattle.std.proofs.Common.{◌≡◌, ℕ, ◌+◌, ◌<◌, length, None}
+use Rattle.bpf_semantics.specs.declared.profile.Profile.TheVariants.{Second}
 use Rattle.bpf_verifier.specs.Known.{AreSums}
 use Rattle.bpf_verifier.specs.Candidates.{program_in}
 use Rattle.bpf_verifier.specs.Rows.{StartsZero, HasKinds, IsPass}
@@ -15,7 +16,7 @@ invariant-loop-at g l = record {
   pool : IsPool l.program.image.profile l.rows;
   sums : AreSums (program_in l.program) (length l.program.image.code.items + 1) l.at l.sums;
   pairs : l.pairs ≡ pairs_at (program_in l.program) (table (program_in l.program)) l.at;
-  meets : Meets (program_in l.program) (table (program_in l.program)) (length l.program.image.code.items + 1) l.at l.meetings;
+  meets : l.program.image.profile ≡ Second → Meets (program_in l.program) (table (program_in l.program)) (length l.program.image.code.items + 1) l.at l.meetings;
   here : HasKinds l.program.image.profile l.rows.low l.here;
   taken : StartsZero l.program.image.profile l.rows.low l.taken;
   lows : AreSlots (program_in l.program) l.lows.items l.at;

@@ -1,6 +1,6 @@
 use Rattle.std.proofs.Common.{◌≡◌, ◌∙◌, ◌++◌, List, ℕ, Some, ap, subst}
 use Rattle.std.specs.Prelude.{OnOk, codes}
-use Rattle.http_response.specs.Answer.{bucket_of, print_answer, props_text, told}
+use Rattle.http_response.specs.Answer.{print_answer, props_text, told}
 use Rattle.http_response.proofs.answer.push_bound.Goals as goal
 
 pub returns : goal.returns

@@ -1,9 +1,9 @@
 use Rattle.std.proofs.Common.{ap, ◌∙◌, ◌++◌, []}
 use Rattle.std.specs.Prelude.{codes}
 use Rattle.std.specs.Option.{option_copied}
-use Rattle.http_response.specs.Answer.{closing, length_of, own_fields, print_answer, shown_body}
+use Rattle.http_response.specs.Answer.{closing, deletion, length_of, own_fields, print_answer, shown_body}
 use Rattle.http_response.specs.Parts.{line, field_line}
-use Rattle.http_response.specs.View.{read_end, context_of, etag_of, vary_of}
+use Rattle.http_response.specs.View.{read_end, context_of, deleted_of, etag_of, vary_of}
 use Rattle.http_response.proofs.Pieces.{answer_grouped}
 use Rattle.http_response.proofs.field.push_parts.Goals as goal
 
@@ -30,4 +30,5 @@ returns c =
     ∙ ap (λ x. x ++ t) (c.in_ok-push_context.ensures
     ∙ ap (λ x. x ++ v) (c.in_ok-push_field.ensures
     ∙ ap (λ x. x ++ m) c.in_ok-push_status.ensures))))))))
-    ∙ answer_grouped c.args.out.now.items s m v t k l w own_fields (field_line (codes "ETag") (etag_of a.read)) (field_line (codes "Vary") (vary_of a.read)) (line []) b)
+    ∙ answer_grouped c.args.out.now.items s m v t k l w own_fields (field_line (codes "ETag") (etag_of a.read)) (field_line (codes "Vary") (vary_of a.read))
+    (field_line (codes "X-Riak-Deleted") (deletion (deleted_of a.read))) (line []) b)

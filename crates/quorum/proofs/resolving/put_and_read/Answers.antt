@@ -1,27 +1,14 @@
-use Rattle.std.proofs.Common.{[], ◌∷◌, Ok, Err, refl, subst}
-use Rattle.peers.specs.Calls.{PutAt, StateOf}
+use Rattle.std.proofs.Common.{Ok, Err, ap, sym, ◌∙◌}
+use Rattle.quorum.specs.Resolves.{told_of}
+use Rattle.quorum.proofs.ResolveLemmas.{both_made, told_both}
 use Rattle.quorum.proofs.resolving.put_and_read.Goals as goal
 
-pub returns-in-Ok-state_of : goal.returns-in-Ok-state_of
-returns-in-Ok-state_of g c = (
-  Ok c.in-Ok.field-0,
-  StateOf c.args.coordinator c.args.key.now (Ok c.in-Ok-state_of.answer) ∷ [],
-  (
-    c.put_at.new.self,
-    subst (λ b. g.P.Peers.happens c.args.peers.now (PutAt c.args.coordinator c.args.key.now c.args.seen.now c.args.content.now b) c.put_at.new.self) c.in-Ok.is c.put_at.ensures,
-    (c.state_of.new.self, subst (λ b. g.P.Peers.happens c.put_at.new.self (StateOf c.args.coordinator c.args.key.now b) c.state_of.new.self) c.in-Ok-state_of.is c.state_of.ensures, refl),
-  ),
-  (Ok c.in-Ok-state_of.answer, refl, refl),
-)
+pub returns-in-Ok-default-Ok : goal.returns-in-Ok-default-Ok
+returns-in-Ok-default-Ok g c =
+    let w = c.in-Ok-default-Ok in
+    both_made g.P.Peers.happens c.args.peers.now c.put_and_read_at.new.self c.args.coordinator c.args.key.now c.args.seen.now c.args.content.now c.put_and_read_at.result (Ok w.own.state) c.put_and_read_at.ensures (sym (ap told_both w.is ∙ ap told_of w.field-0-1-is))
 
-pub returns-in-Err-state_of : goal.returns-in-Err-state_of
-returns-in-Err-state_of g c = (
-  Ok c.in-Ok.field-0,
-  StateOf c.args.coordinator c.args.key.now (Err c.in-Err-state_of.fault) ∷ [],
-  (
-    c.put_at.new.self,
-    subst (λ b. g.P.Peers.happens c.args.peers.now (PutAt c.args.coordinator c.args.key.now c.args.seen.now c.args.content.now b) c.put_at.new.self) c.in-Ok.is c.put_at.ensures,
-    (c.state_of.new.self, subst (λ b. g.P.Peers.happens c.put_at.new.self (StateOf c.args.coordinator c.args.key.now b) c.state_of.new.self) c.in-Err-state_of.is c.state_of.ensures, refl),
-  ),
-  (Err c.in-Err-state_of.fault, refl, refl),
-)
+pub returns-in-Ok-default-Err : goal.returns-in-Ok-default-Err
+returns-in-Ok-default-Err g c =
+    let w = c.in-Ok-default-Err in
+    both_made g.P.Peers.happens c.args.peers.now c.put_and_read_at.new.self c.args.coordinator c.args.key.now c.args.seen.now c.args.content.now c.put_and_read_at.result (Err w.fault) c.put_and_read_at.ensures (sym (ap told_both w.is ∙ ap told_of w.field-0-1-is))

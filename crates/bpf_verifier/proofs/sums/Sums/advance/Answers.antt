@@ -16,6 +16,6 @@ returns-clause-on c =
     record {
       long = omega (arith, c.note.ensures.long, c.requires.old.long);
       led = led;
-      held = c.sums_on-self.ensures ∙ sums_on code at x c.index.result.now c.args.self.now.held insn here c.requires.old.held;
+      held = c.sum_on.ensures ∙ sums_on code at x c.index.result.now c.args.self.now.held insn here c.requires.old.held;
       names = c.in_ok-name_on.ensures.follows;
     }

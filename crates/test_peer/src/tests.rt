@@ -1,0 +1,6 @@
+//! The tests.
+
+mod frames;
+mod members;
+mod rings;
+mod tags;
