@@ -61,6 +61,8 @@ FORCED_WITHIN_SECONDS = 5
 # Of which lives calls fail, how, and which ones of each thread may: none of the start, which would be refused.
 FAULTY_LIVES = 3
 FAULTS = {"fdatasync:error=EIO": (3, 25), "fsync:error=EIO": (9, 20), "rename:error=EIO": (3, 8), "unlink:error=EIO": (1, 2)}
+# In memory a force takes no time. In some lives it does, as on a device.
+DELAYS_US = (300, 3_000)
 HOOK = "/hooks/no"
 PROPERTIES = "/buckets/bound/props"
 BEFORE = -1
@@ -110,20 +112,21 @@ def is_bound(server: Server) -> bool:
 
 @dataclass(frozen=True)
 class How:
-    """How the log is forced in a life, and which calls fail, in strace's words."""
+    """How the log is forced in a life, which calls fail, and which are slow, in strace's words."""
 
     sync: bytes
-    fault: str
+    fault: str = ""
+    delay: str = ""
 
     def __str__(self) -> str:
-        return f"sync {self.sync.decode()}" + (f", {self.fault}" if self.fault else "")
+        return ", ".join(word for word in (f"sync {self.sync.decode()}", self.fault, self.delay) if word)
 
 
 def how_of(number: int, chance: random.Random) -> How:
     """How a life goes, by its number."""
     sync = SYNCS[number % len(SYNCS)]
     if number % FAULTY_LIVES != FAULTY_LIVES - 1:
-        return How(sync, "")
+        return How(sync, delay=f"fdatasync:delay_enter={chance.choice(DELAYS_US)}" if number % 2 else "")
     fault = chance.choice(sorted(FAULTS))
     return How(sync, f"{fault}:when={chance.randint(*FAULTS[fault])}")
 
@@ -175,7 +178,7 @@ def live(found: Findings, program: Path, folder: Path, life: Life, size: Size, c
             begin_and_kill(program, life.trace, told, chance.uniform(0, MOST_START_SECONDS))
             if not life.trace.device.is_settled:
                 break
-        traced = Traced(program, life.trace, chance.choice(WORKERS), told, "" if number else life.how.fault)
+        traced = Traced(program, life.trace, chance.choice(WORKERS), told, life.how.delay if number else life.how.fault or life.how.delay)
         serve(found, traced, life, max(1, size.writes // servers), chance)
         told.unlink()
         if not life.trace.device.is_settled:

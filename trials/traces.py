@@ -8,6 +8,7 @@ one order: of files that were removed, the first removed goes first.
 """
 from __future__ import annotations
 
+import functools
 import os
 import random
 import re
@@ -455,6 +456,7 @@ class Trace:
             talk.send(call.data(), call.began)
 
 
+@functools.cache
 def strace() -> str:
     """The path of strace, where it may trace: else a trial is skipped."""
     path = tool("strace")
@@ -464,20 +466,20 @@ def strace() -> str:
     return path
 
 
-def traced_words(program: Path, folder: Path, workers: int, told: Path, fault: str = "") -> list[str]:
+def traced_words(program: Path, folder: Path, workers: int, told: Path, injected: str = "") -> list[str]:
     """The command by which a kept store runs under strace. Its first process is the server, and strace its grandchild."""
     calls = ",".join(KNOWN_CALLS + UNKNOWN_CALLS)
     words = [strace(), "-D", "-f", "-q", "--seccomp-bpf", "-xx", "-s", str(MOST_BYTES), "-e", f"trace={calls}", "-o", str(told)]
-    words += ["-e", f"inject={fault}"] if fault else []
+    words += ["-e", f"inject={injected}"] if injected else []
     return [*words, str(program), "keep", str(folder), AT_A_PORT_OF_THE_SYSTEM, str(workers)]
 
 
 class Traced:
-    """A kept store at whose calls strace looks from its first on, and of whose calls it has some fail, in strace's words."""
+    """A kept store at whose calls strace looks from its first on, and some of whose calls it has fail or be slow, in strace's words."""
 
-    def __init__(self, program: Path, trace: Trace, workers: int, told: Path, fault: str = ""):
+    def __init__(self, program: Path, trace: Trace, workers: int, told: Path, injected: str = ""):
         self.trace, self.told = trace, told
-        words = traced_words(program, trace.device.folder, workers, told, fault)
+        words = traced_words(program, trace.device.folder, workers, told, injected)
         self.server = Server(Path(words[0]), words[1:])
 
     def read(self) -> None:
