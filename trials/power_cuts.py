@@ -51,8 +51,8 @@ SYNCS = (b"always", b"everysec", b"always", b"never")
 # So many lives from one empty folder to the next: a key's context stays short, so that no start folds it.
 LIVES_OF_A_FOLDER = 4
 SERVERS_OF_A_LIFE = (1, 1, 2, 3)
-# How many starts are killed before they are over, before one that isn't.
-KILLED_STARTS, MOST_START_SECONDS = 0.3, 0.2
+# How many starts are killed before they are over, before one that isn't, and behind how many lines of the trace: those of its changes.
+KILLED_STARTS, CALLS_OF_A_START = 0.3, (85, 140)
 WORKERS = (1, 2, 4)
 WRITERS = 3
 OWN_KEYS, SHARED_KEYS = 3, ["shared-1", "shared-2"]
@@ -175,7 +175,7 @@ def live(found: Findings, program: Path, folder: Path, life: Life, size: Size, c
     for number in range(servers):
         told = folder.parent / f"calls-{folder.name}-{number}"
         if chance.random() < KILLED_STARTS:
-            begin_and_kill(program, life.trace, told, chance.uniform(0, MOST_START_SECONDS))
+            begin_and_kill(program, life.trace, told, chance.randint(*CALLS_OF_A_START))
             if not life.trace.device.is_settled:
                 break
         traced = Traced(program, life.trace, chance.choice(WORKERS), told, life.how.delay if number else life.how.fault or life.how.delay)

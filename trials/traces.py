@@ -39,6 +39,7 @@ NUMBER = re.compile(r"^(\d+)")
 LENGTH = re.compile(rb"\r\ncontent-length: (\d+)", re.IGNORECASE)
 
 BLOCK_BYTES = 512
+START_SECONDS = 30
 NOT_YET = 2**62
 
 
@@ -487,12 +488,18 @@ class Traced:
         self.trace.read(self.told.read_text(encoding="ascii", errors="replace").splitlines())
 
 
-def begin_and_kill(program: Path, trace: Trace, told: Path, seconds: float) -> None:
-    """Starts a server and kills it so many seconds later, maybe before it listens, and has the trace take what was seen."""
+def begin_and_kill(program: Path, trace: Trace, told: Path, calls: int) -> None:
+    """Starts a server and kills it once so many calls were told, maybe before it listens, and has the trace take what was seen."""
     words = traced_words(program, trace.device.folder, 1, told)
     with subprocess.Popen(words, stdin=subprocess.DEVNULL, stdout=subprocess.PIPE, stderr=subprocess.DEVNULL) as server:
-        time.sleep(seconds)
+        until = time.monotonic() + START_SECONDS
+        while lines_of(told) <= calls and server.poll() is None and time.monotonic() < until:
+            time.sleep(0.001)
         server.kill()
         server.stdout.read()  # until strace has ended, too
-    if told.exists():
-        trace.read(told.read_text(encoding="ascii", errors="replace").splitlines())
+    trace.read(told.read_text(encoding="ascii", errors="replace").splitlines())
+
+
+def lines_of(told: Path) -> int:
+    """How many lines were told by now. strace looks at a server from the first one on, and can't be killed well before."""
+    return told.read_bytes().count(b"\n") if told.exists() else 0
