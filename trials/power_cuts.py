@@ -29,7 +29,7 @@ from server import NoStart, Server
 from traces import Connection, Cut, Trace, Traced, begin_and_kill, strace
 from trial import Findings, Result, side_by_side
 from unproved import OUT
-from writes import Known, Numbered, Shown, Write, Writer, read_all
+from writes import REFUSALS, Known, Numbered, Shown, Write, Writer, read_all
 
 NAME = "power_cuts"
 PROMISES = "A power cut at any place loses no write that was acknowledged, and no start is refused."
@@ -101,7 +101,9 @@ class Binder(threading.Thread):
         self.bindings.append(one)
         asked = b'{"props":{"precommit":%s}}' % (b'"no"' if one.is_bound else b"null")
         status = client.ask("PUT", PROPERTIES, asked).status
-        if status != 204:
+        if status in REFUSALS:
+            self.bindings.remove(one)
+        elif status != 204:
             self.faults.append(f"a binding: {status}")
 
 
