@@ -48,6 +48,7 @@ class Size:
 FULL, SHORT = Size(lives=12, writes=150, cuts=900), Size(lives=1, writes=40, cuts=25)
 
 SYNCS = (b"always", b"everysec", b"always", b"never")
+COPIES = (1, 1, 3)
 # So many lives from one empty folder to the next: a key's context stays short, so that no start folds it.
 LIVES_OF_A_FOLDER = 4
 SERVERS_OF_A_LIFE = (1, 1, 2, 3)
@@ -114,23 +115,28 @@ def is_bound(server: Server) -> bool:
 
 @dataclass(frozen=True)
 class How:
-    """How the log is forced in a life, which calls fail, and which are slow, in strace's words."""
+    """How a life goes: how the log is forced, how many copies a key has, which calls fail and which are slow, in strace's words."""
 
     sync: bytes
+    copies: int
     fault: str = ""
     delay: str = ""
 
+    @property
+    def settings(self) -> bytes:
+        return kept.NO_SNAPSHOTS_BY_ITSELF + b"sync %s\ncopies %d\n" % (self.sync, self.copies)
+
     def __str__(self) -> str:
-        return ", ".join(word for word in (f"sync {self.sync.decode()}", self.fault, self.delay) if word)
+        return ", ".join(word for word in (f"sync {self.sync.decode()}, copies {self.copies}", self.fault, self.delay) if word)
 
 
 def how_of(number: int, chance: random.Random) -> How:
     """How a life goes, by its number."""
-    sync = SYNCS[number % len(SYNCS)]
+    sync, copies = SYNCS[number % len(SYNCS)], chance.choice(COPIES)
     if number % FAULTY_LIVES != FAULTY_LIVES - 1:
-        return How(sync, delay=f"fdatasync:delay_enter={chance.choice(DELAYS_US)}" if number % 2 else "")
+        return How(sync, copies, delay=f"fdatasync:delay_enter={chance.choice(DELAYS_US)}" if number % 2 else "")
     fault = chance.choice(sorted(FAULTS))
-    return How(sync, f"{fault}:when={chance.randint(*FAULTS[fault])}")
+    return How(sync, copies, f"{fault}:when={chance.randint(*FAULTS[fault])}")
 
 
 @dataclass
@@ -171,7 +177,7 @@ class Life:
 
 def live(found: Findings, program: Path, folder: Path, life: Life, size: Size, chance: random.Random) -> None:
     """One life of a store that begins with what a folder holds: one server after another."""
-    (folder / kept.SETTINGS).write_bytes(kept.NO_SNAPSHOTS_BY_ITSELF + b"sync %s\n" % life.how.sync)
+    (folder / kept.SETTINGS).write_bytes(life.how.settings)
     life.trace = Trace(folder)
     servers = chance.choice(SERVERS_OF_A_LIFE)
     for number in range(servers):
