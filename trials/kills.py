@@ -5,20 +5,21 @@ get, and one of them binds a hook that rejects to a bucket and takes it away, an
 server is told to stop (a quarter of the rounds) or is killed, maybe in the midst of a snapshot. A fourth client sends puts of keys of
 its own one behind another, some at a time, and reads the answers later. Whatever the end was, everything that was acknowledged has to
 be there at the next start, siblings and contexts alike, and nothing else; a request that wasn't answered may have been done or not.
-That is so however often the log is forced, as the rounds take in turn. A second process on the folder has to be told `in use`. No key
-is ever given one tag twice, and a context from before a kill is taken or answered by 412, and never lets a value go that its client
-hasn't seen.
+That is so however often the log is forced, as the rounds take in turn, and behind starts that are killed before they are over. A
+second process on the folder has to be told `in use`. No key is ever given one tag twice, and a context from before a kill is taken or
+answered by 412, and never lets a value go that its client hasn't seen.
 """
 from __future__ import annotations
 
 import random
+import subprocess
 import threading
 import time
 from dataclasses import dataclass, field
 from pathlib import Path
 
 import kept
-from server import Answer, Client, NoStart, Server, request
+from server import AT_A_PORT_OF_THE_SYSTEM, Answer, Client, NoStart, Server, request
 from trial import Findings, Result
 
 NAME = "kills"
@@ -33,7 +34,7 @@ class Size:
     rounds: int
 
 
-FULL, SHORT = Size(rounds=300), Size(rounds=12)
+FULL, SHORT = Size(rounds=3_000), Size(rounds=12)
 
 SYNCS = (b"always", b"everysec", b"never")
 
@@ -45,6 +46,9 @@ PIPED = 40
 PIPED_OF_A_START = 400
 PIPED_BEFORE = 200
 PIPE_REST_SECONDS = 0.01
+KILLED_STARTS, MOST_START_SECONDS = 0.2, 0.1
+MOST_CHANGES_BEFORE = 30
+SECONDS_BEFORE = 5
 BOUND = "the hook is bound"
 
 # Of a key the sets of values of which one stands there; of the hook whether it is bound.
@@ -209,6 +213,13 @@ class Piper(threading.Thread):
             self.faults.append(f"an answer that is none: {error}")
 
 
+def wait_for(writers: list[Writer], changes: int) -> None:
+    """Waits until there were so many changes, where the machine has much else to do, or for some seconds."""
+    until = time.monotonic() + SECONDS_BEFORE
+    while sum(len(writer.tags) for writer in writers) < changes and time.monotonic() < until:
+        time.sleep(0.005)
+
+
 def ask_for_snapshots(server: Server, chance: random.Random) -> list[str]:
     """Asks for some snapshots, of which the last may be under way when this ends. Gives what was told otherwise."""
     faults = []
@@ -248,13 +259,22 @@ class Life:
         is_right = end is not None and end.is_in_order and len(end.printed) == 2 and end.printed[0].startswith("kept ")
         return [] if is_right else [f"the end: {end}"]
 
+    def begin_and_kill(self) -> None:
+        """A start that is killed, maybe before it is over."""
+        words = [self.program, "keep", self.folder, AT_A_PORT_OF_THE_SYSTEM, "1"]
+        with subprocess.Popen(words, stdin=subprocess.DEVNULL, stdout=subprocess.DEVNULL, stderr=subprocess.DEVNULL) as started:
+            time.sleep(self.chance.uniform(0, MOST_START_SECONDS))
+            started.kill()
+
     def note_tags(self, tags: list[tuple[str, str]]) -> list[str]:
         again = [tag for place, tag in enumerate(tags) if tag in self.tags or tag in tags[:place]]
         self.tags.update(tags)
         return [f"tags that were given before: {again[:5]}"] if again else []
 
     def round(self, is_first: bool, is_stopped: bool) -> list[str]:
-        """One start and its end, a stop or a kill. Gives what was wrong."""
+        """One start and its end, a stop or a kill, maybe behind a start that was killed. Gives what was wrong."""
+        if self.chance.random() < KILLED_STARTS:
+            self.begin_and_kill()
         try:
             server = Server.keep(self.program, self.folder)
         except NoStart as error:
@@ -267,6 +287,7 @@ class Life:
             piper = Piper(server, self.piped, random.Random(self.chance.random()))
             for thread in [*writers, piper]:
                 thread.start()
+            wait_for(writers, self.chance.randrange(MOST_CHANGES_BEFORE))
             faults += ask_for_snapshots(server, self.chance)
             if is_stopped:
                 faults += self.end_of(server)

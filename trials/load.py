@@ -77,10 +77,11 @@ def wait_for(process: subprocess.Popen, url: str, port: int) -> None:
 
 
 @contextlib.contextmanager
-def redis(folder: Path) -> Iterator[tuple[int, int]]:
-    """The port and the process number of a redis that saves nothing."""
+def redis(folder: Path, forced: str = "") -> Iterator[tuple[int, int]]:
+    """The port and the process number of a redis that saves nothing, or has a log that is forced `always`, `everysec` or `no`."""
     port = free_port()
-    words = [tool("redis-server"), "--port", str(port), "--bind", HOST, "--appendonly", "no", "--dir", str(folder), "--save", ""]
+    words = [tool("redis-server"), "--port", str(port), "--bind", HOST, "--dir", str(folder), "--save", ""]
+    words += ["--appendonly", "yes", "--appendfsync", forced] if forced else ["--appendonly", "no"]
     with running(words, "", port) as process:
         yield port, process.pid
 

@@ -52,11 +52,11 @@ NONE = Place(-1, -1)
 
 
 class Refusals:
-    """What `c/refuse_one.c` is asked for: which allocation of a thread that writes records it refuses."""
+    """What `c/refuse_one.c` is asked for, or another such library: which allocation of a thread that writes records it refuses."""
 
-    def __init__(self, folder: Path):
+    def __init__(self, folder: Path, source: str = "refuse_one.c"):
         self.asked = folder / "asked"
-        self.environment = {"LD_PRELOAD": str(library("refuse_one.c", folder / "refuse.so")), "REFUSALS": str(self.asked)}
+        self.environment = {"LD_PRELOAD": str(library(source, folder / "refuse.so")), "REFUSALS": str(self.asked)}
         self.asked.touch()
         self.refuse(NONE)
 

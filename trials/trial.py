@@ -5,7 +5,8 @@ import dataclasses
 import re
 import shutil
 import subprocess
-from collections.abc import Mapping
+from collections.abc import Callable, Iterable, Mapping
+from concurrent.futures import ThreadPoolExecutor
 from dataclasses import dataclass, field
 from pathlib import Path
 from typing import Any
@@ -80,6 +81,16 @@ class Findings:
 
     def result(self, figure: str) -> Result:
         return Result(self.is_fine, figure, self.lines)
+
+
+def side_by_side(most: int, calls: Iterable[Callable[[], None]]) -> None:
+    """Makes all calls, so many at a time. Where one fails, or the run is ended, those that haven't begun are left out."""
+    pool = ThreadPoolExecutor(most)
+    try:
+        for one in [pool.submit(call) for call in calls]:
+            one.result()
+    finally:
+        pool.shutdown(cancel_futures=True)
 
 
 def tool(name: str) -> str:
