@@ -52,9 +52,20 @@ fn questions_are_written_and_read(rt: HostRuntime) -> Result<(), Fail> {
     if write_ask(&mut out, &ask).is_err() || out.as_slice() != PUT {
         return Err(Fail::new(format_args!("a put is written otherwise")));
     }
-    match read_ask(alloc, PUT) {
-        Ok(Question::Put { vnode: 5, key, .. }) if key.bucket() == b"b".as_slice() => Ok(()),
-        _ => Err(Fail::new(format_args!("a put is read otherwise"))),
+    let Ok(question) = read_ask(alloc, PUT) else {
+        return Err(Fail::new(format_args!("a put isn't read")));
+    };
+    if !is_put_in_b(&question) {
+        return Err(Fail::new(format_args!("a put is read otherwise")));
+    }
+    Ok(())
+}
+
+/// Whether a question is a put at the vnode 5 of a key in the bucket `b`.
+fn is_put_in_b(question: &Question) -> bool {
+    match question {
+        Question::Put { vnode, key, .. } => *vnode == 5 && key.bucket() == b"b".as_slice(),
+        _ => false,
     }
 }
 
