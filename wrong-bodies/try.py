@@ -322,8 +322,10 @@ def judged(body: Body, said: Said) -> Row:
     fault = fault_of(lines, [file for file, _, _ in body.pairs])
     if fault:
         return Row(body, f"DIDN'T REACH THE PROVER: {fault[:200]}", 0, "", seconds, False)
-    if not any(line.startswith("logic=not-proved") for line in lines):
+    if said.is_proved:
         return Row(body, "PASSES", 0, "", seconds, False)
+    if not any(line.startswith("logic=not-proved") for line in lines):
+        return Row(body, "DIDN'T REACH THE PROVER: it gave no verdict", 0, "", seconds, False)
     return compared(body, refusal_of(body.crate, lines), seconds)
 
 
