@@ -1,3 +1,5 @@
-pub mod Limits
 pub mod Messages
+pub mod Limits
 pub mod Reading
+pub mod Filling
+pub mod Faults

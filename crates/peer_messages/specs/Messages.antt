@@ -1,16 +1,13 @@
 -- Messages between servers (this store's profile). All numbers are big-endian. Keys, clocks, contents and states are spelled as in a record.
-use Rattle.std.specs.Prelude.{◌≡◌, ℕ, ◌<◌, ◌^◌, Bool, true, false, List, [], ◌∷◌, ◌++◌, length, map, Option, Some, None}
+use Rattle.std.specs.Prelude.{ℕ, true, false, List, [], ◌∷◌, ◌++◌, length, map, Option, Some, None}
+use Rattle.std.specs.List.{flat_map}
 use Rattle.std.specs.Int.{w32, w64, to_be_bytes}
 use Rattle.dvv.specs.declared.Dot.{Dot}
-use Rattle.dvv.specs.Clock.{IsClock}
 use Rattle.key_state.specs.declared.content.Content.{Content}
-use Rattle.key_state.specs.declared.content.Content.TheVariants.{Tombstone}
-use Rattle.key_state.specs.declared.content.Sibling.{Sibling}
+use Rattle.key_state.specs.declared.content.Key.{Key}
 use Rattle.key_state.specs.declared.part.PartSibling.{PartSibling}
-use Rattle.key_state.specs.Limits.{IsContent, IsKey}
 use Rattle.key_state.specs.Parts.{Partial, Summarized}
-use Rattle.key_state.specs.State.{IsState, State}
-use Rattle.record_codec.specs.Records.{AreContents, AreNarrow, clock, content, dot, key, state}
+use Rattle.record_codec.specs.Records.{clock, content, dot, key, state}
 use Rattle.vnode.specs.declared.fault.VnodeFault.{VnodeFault}
 use Rattle.vnode.specs.declared.fault.VnodeFault.TheVariants.{ContextAhead, TooManySiblings, ClockFull, MergedClockFull, JournalFull, NoMemory}
 use Rattle.peer_remote.specs.declared.message.Question.{Question}
@@ -18,62 +15,81 @@ use Rattle.peer_remote.specs.declared.message.Question.TheVariants as question
 use Rattle.peer_remote.specs.declared.message.Told.{Told}
 use Rattle.peer_remote.specs.declared.message.Told.TheVariants as told
 
--- ---- summaries and parts as states
+-- ---- parts and summaries
 
--- a dot alone, as a sibling without a value
-abbrev pub bare : Dot → Sibling
-bare d = record { dot = d; content = Tombstone }
+-- what a part has of a content: the content, or 2 where it was left out
+abbrev pub sent_content : Option Content → List ℕ
+sent_content None = 2 ∷ []
+sent_content (Some c) = content c
 
--- the state that has a summary's dots, and no value
-abbrev pub bare_state : Summarized → State
-bare_state s = record { siblings = map bare s.dots; clock = s.clock }
+abbrev pub part_sibling : PartSibling → List ℕ
+part_sibling s = dot s.dot ++ sent_content s.content
 
--- a sibling of a part, a tombstone where its content was left out
-abbrev pub filled : PartSibling → Sibling
-filled s = record { dot = s.dot; content = content_or_none s.content }
-  where
-    content_or_none : Option Content → Content
-    content_or_none None = Tombstone
-    content_or_none (Some c) = c
+-- the siblings of a part, behind how many there are
+abbrev pub part_siblings : List PartSibling → List ℕ
+part_siblings ss = to_be_bytes w32 (length ss) ++ flat_map part_sibling ss
 
--- the state that has a part's contents, with tombstones for those that were left out
-abbrev pub filled_state : Partial → State
-filled_state p = record { siblings = map filled p.siblings; clock = p.clock }
+-- a part: its clock and its siblings
+abbrev pub part : Partial → List ℕ
+part p = clock p.clock ++ part_siblings p.siblings
 
--- the dots whose contents were left out
-abbrev pub left_out : List PartSibling → List Dot
-left_out [] = []
-left_out (s ∷ ss) = with_dot s.content
-  where
-    with_dot : Option Content → List Dot
-    with_dot None = s.dot ∷ left_out ss
-    with_dot (Some c) = left_out ss
+-- a summary: its clock and its dots, as a part of which all contents were left out
+abbrev pub left_out_dot : Dot → List ℕ
+left_out_dot d = dot d ++ 2 ∷ []
 
--- what the receiver of a part holds of it
-abbrev pub held_of : Partial → Summarized
-held_of p = record { dots = left_out p.siblings; clock = p.clock }
+abbrev pub left_out_dots : List Dot → List ℕ
+left_out_dots ds = to_be_bytes w32 (length ds) ++ flat_map left_out_dot ds
 
--- ---- how messages are spelled
+abbrev pub summary : Summarized → List ℕ
+summary s = clock s.clock ++ left_out_dots s.dots
+
+-- the part that is spelled so
+abbrev pub without_content : Dot → PartSibling
+without_content d = record { dot = d; content = None }
+
+abbrev pub emptied : Summarized → Partial
+emptied s = record { siblings = map without_content s.dots; clock = s.clock }
+
+-- ---- questions
 
 -- a read: the vnode, and the place in its journal
 abbrev pub source : ℕ → ℕ → List ℕ
 source from at = to_be_bytes w32 from ++ to_be_bytes w64 at
 
--- a summary: the state of its dots without values
-abbrev pub summary : Summarized → List ℕ
-summary s = state (bare_state s)
+abbrev pub kind_of : Question → ℕ
+kind_of (question.Put vnode k seen c) = 0
+kind_of (question.Merge vnode k from at s) = 1
+kind_of (question.Read vnode k) = 2
+kind_of (question.Summary vnode k) = 3
+kind_of (question.Part vnode k from at p) = 4
 
--- a part: the state of its contents, and the summary of what was left out
-abbrev pub part : Partial → List ℕ
-part p = state (filled_state p) ++ summary (held_of p)
+abbrev pub vnode_of : Question → ℕ
+vnode_of (question.Put vnode k seen c) = vnode
+vnode_of (question.Merge vnode k from at s) = vnode
+vnode_of (question.Read vnode k) = vnode
+vnode_of (question.Summary vnode k) = vnode
+vnode_of (question.Part vnode k from at p) = vnode
 
--- a question: its kind, the vnode's index, the key, and what it is about
+abbrev pub key_of : Question → Key
+key_of (question.Put vnode k seen c) = k
+key_of (question.Merge vnode k from at s) = k
+key_of (question.Read vnode k) = k
+key_of (question.Summary vnode k) = k
+key_of (question.Part vnode k from at p) = k
+
+-- what is to be written or merged
+abbrev pub about : Question → List ℕ
+about (question.Put vnode k seen c) = clock seen ++ content c
+about (question.Merge vnode k from at s) = source from at ++ state s
+about (question.Read vnode k) = []
+about (question.Summary vnode k) = []
+about (question.Part vnode k from at p) = source from at ++ part p
+
+-- a question: its kind, the vnode's index, the key, and what is to be written or merged
 abbrev pub question_text : Question → List ℕ
-question_text (question.Put vnode k seen c) = 0 ∷ vnode ∷ (key k ++ (clock seen ++ content c))
-question_text (question.Merge vnode k from at s) = 1 ∷ vnode ∷ (key k ++ (source from at ++ state s))
-question_text (question.Read vnode k) = 2 ∷ vnode ∷ key k
-question_text (question.Summary vnode k) = 3 ∷ vnode ∷ key k
-question_text (question.Part vnode k from at p) = 4 ∷ vnode ∷ (key k ++ (source from at ++ part p))
+question_text q = kind_of q ∷ vnode_of q ∷ (key (key_of q) ++ about q)
+
+-- ---- answers
 
 -- why a vnode refused
 abbrev pub fault_byte : VnodeFault → ℕ

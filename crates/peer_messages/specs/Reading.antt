@@ -1,18 +1,63 @@
 -- Reading messages from left to right.
-use Rattle.std.specs.Prelude.{◌≡◌, ℕ, zero, suc, ◌==◌, true, false, List, [], ◌∷◌, length, Option, Some, None, if◌then◌else◌}
+use Rattle.std.specs.Prelude.{ℕ, ◌==◌, ◌&&◌, not, true, false, Bool, List, [], ◌∷◌, length, map, Option, Some, None, is_some, if◌then◌else◌}
+use Rattle.std.specs.List.{list_all}
 use Rattle.std.specs.Int.{w32, w64}
 use Rattle.dvv.specs.declared.Dot.{Dot}
+use Rattle.dvv.specs.Dots.{is_before}
+use Rattle.dvv.specs.Clock.{covers}
 use Rattle.key_state.specs.declared.content.Content.{Content}
 use Rattle.key_state.specs.declared.content.Key.{Key}
-use Rattle.key_state.specs.State.{State}
+use Rattle.key_state.specs.declared.part.PartSibling.{PartSibling}
+use Rattle.key_state.specs.Parts.{Partial, Summarized}
 use Rattle.vnode.specs.declared.fault.VnodeFault.{VnodeFault}
 use Rattle.vnode.specs.declared.fault.VnodeFault.TheVariants.{ContextAhead, TooManySiblings, ClockFull, MergedClockFull, JournalFull, NoMemory}
 use Rattle.peer_remote.specs.declared.message.Question.{Question}
 use Rattle.peer_remote.specs.declared.message.Question.TheVariants as question
 use Rattle.peer_remote.specs.declared.message.Told.{Told}
 use Rattle.peer_remote.specs.declared.message.Told.TheVariants as told
-use Rattle.key_state.specs.Parts.{Partial, Summarized, part_of, summary_of}
-use Rattle.record_codec.specs.Reading.{Reader, ◌>>=◌, clock_at, content_at, dot_at, key_at, number_at, state_at}
+use Rattle.record_codec.specs.Reading.{Reader, ◌>>=◌, chain_at, clock_at, content_at, dot_at, key_at, no_dot, number_at, state_at}
+
+-- ---- parts and summaries
+
+-- what a part has of a content
+unfoldable pub sent_content_at : Reader (Option Content)
+sent_content_at [] = None
+sent_content_at (tag ∷ rest) = if tag == 2 then Some (None, rest) else (content_at (tag ∷ rest) >>= λ content. Some (Some content.0, content.1))
+
+unfoldable pub part_sibling_at : Reader PartSibling
+part_sibling_at bytes = do
+  dot ← dot_at bytes
+  content ← sent_content_at dot.1
+  Some (record { dot = dot.0; content = content.0 }, content.1)
+
+-- each above the one before it, and covered by the clock
+abbrev pub next_part : List Dot → Dot → PartSibling → Option Dot
+next_part clock before sibling = if is_before before sibling.dot && covers clock sibling.dot then Some sibling.dot else None
+
+unfoldable pub part_siblings_at : List Dot → Reader (List PartSibling)
+part_siblings_at clock bytes = do
+  count ← number_at w32 bytes
+  chain_at part_sibling_at (next_part clock) count.0 no_dot count.1
+
+unfoldable pub part_at : Reader Partial
+part_at bytes = do
+  clock ← clock_at bytes
+  siblings ← part_siblings_at clock.0 clock.1
+  Some (record { siblings = siblings.0; clock = clock.0 }, siblings.1)
+
+-- the summary that a part without contents is
+abbrev pub are_left_out : List PartSibling → Bool
+are_left_out siblings = list_all (λ s. not (is_some s.content)) siblings
+
+abbrev pub dots_of : Partial → Summarized
+dots_of part = record { dots = map (λ s. s.dot) part.siblings; clock = part.clock }
+
+unfoldable pub summary_at : Reader Summarized
+summary_at bytes = do
+  part ← part_at bytes
+  if are_left_out part.0.siblings then Some (dots_of part.0, part.1) else None
+
+-- ---- questions
 
 -- a read: the vnode, and the place in its journal
 unfoldable pub source_at : Reader (ℕ × ℕ)
@@ -21,55 +66,32 @@ source_at bytes = do
   at ← number_at w64 from.1
   Some ((from.0, at.0), at.1)
 
--- a summary: that of a state
-unfoldable pub summary_at : Reader Summarized
-summary_at bytes = do
-  state ← state_at bytes
-  Some (summary_of state.0, state.1)
-
--- a part: that of a state for a summary
-unfoldable pub part_at : Reader Partial
-part_at bytes = do
-  state ← state_at bytes
-  held ← summary_at state.1
-  Some (part_of state.0 held.0, held.1)
-
--- ---- questions
-
--- a context and a content
-unfoldable pub write_at : Reader (List Dot × Content)
-write_at bytes = do
+unfoldable pub put_at : ℕ → Key → Reader Question
+put_at vnode k bytes = do
   seen ← clock_at bytes
   content ← content_at seen.1
-  Some ((seen.0, content.0), content.1)
+  Some (question.Put vnode k seen.0 content.0, content.1)
 
--- a read and the state that it answered, or a part of that
-unfoldable pub whole_at : Reader ((ℕ × ℕ) × State)
-whole_at bytes = do
+unfoldable pub merge_at : ℕ → Key → Reader Question
+merge_at vnode k bytes = do
   source ← source_at bytes
   state ← state_at source.1
-  Some ((source.0, state.0), state.1)
+  Some (question.Merge vnode k source.0.0 source.0.1 state.0, state.1)
 
-unfoldable pub some_at : Reader ((ℕ × ℕ) × Partial)
-some_at bytes = do
+unfoldable pub merge_part_at : ℕ → Key → Reader Question
+merge_part_at vnode k bytes = do
   source ← source_at bytes
   part ← part_at source.1
-  Some ((source.0, part.0), part.1)
+  Some (question.Part vnode k source.0.0 source.0.1 part.0, part.1)
 
--- what a question of a kind is about, behind its key
+-- a question of a kind, behind its key
 unfoldable pub about_at : ℕ → ℕ → Key → Reader Question
-about_at zero vnode k bytes = do
-  write ← write_at bytes
-  Some (question.Put vnode k write.0.0 write.0.1, write.1)
-about_at (suc zero) vnode k bytes = do
-  whole ← whole_at bytes
-  Some (question.Merge vnode k whole.0.0.0 whole.0.0.1 whole.0.1, whole.1)
-about_at (suc (suc zero)) vnode k bytes = Some (question.Read vnode k, bytes)
-about_at (suc (suc (suc zero))) vnode k bytes = Some (question.Summary vnode k, bytes)
-about_at (suc (suc (suc (suc zero)))) vnode k bytes = do
-  some ← some_at bytes
-  Some (question.Part vnode k some.0.0.0 some.0.0.1 some.0.1, some.1)
-about_at (suc (suc (suc (suc (suc kind))))) vnode k bytes = None
+about_at kind vnode k bytes =
+    if kind == 0 then put_at vnode k bytes
+    else (if kind == 1 then merge_at vnode k bytes
+    else (if kind == 2 then Some (question.Read vnode k, bytes)
+    else (if kind == 3 then Some (question.Summary vnode k, bytes)
+    else (if kind == 4 then merge_part_at vnode k bytes else None))))
 
 unfoldable pub question_at : Reader Question
 question_at [] = None
@@ -87,41 +109,46 @@ question_in bytes = do
 -- ---- answers
 
 -- why a vnode refused
-abbrev pub fault_at : Reader VnodeFault
-fault_at [] = None
-fault_at (zero ∷ bytes) = Some (ContextAhead, bytes)
-fault_at (suc zero ∷ bytes) = Some (TooManySiblings, bytes)
-fault_at (suc (suc zero) ∷ bytes) = Some (ClockFull, bytes)
-fault_at (suc (suc (suc zero)) ∷ bytes) = Some (MergedClockFull, bytes)
-fault_at (suc (suc (suc (suc zero))) ∷ bytes) = Some (JournalFull, bytes)
-fault_at (suc (suc (suc (suc (suc zero)))) ∷ bytes) = Some (NoMemory, bytes)
-fault_at (suc (suc (suc (suc (suc (suc code))))) ∷ bytes) = None
+abbrev pub fault_of : ℕ → Option VnodeFault
+fault_of byte =
+    if byte == 0 then Some ContextAhead
+    else (if byte == 1 then Some TooManySiblings
+    else (if byte == 2 then Some ClockFull
+    else (if byte == 3 then Some MergedClockFull
+    else (if byte == 4 then Some JournalFull
+    else (if byte == 5 then Some NoMemory else None)))))
 
--- a read and the summary that it answered
-unfoldable pub short_at : Reader ((ℕ × ℕ) × Summarized)
-short_at bytes = do
-  source ← source_at bytes
-  summary ← summary_at source.1
-  Some ((source.0, summary.0), summary.1)
+unfoldable pub refused_at : Reader Told
+refused_at [] = None
+refused_at (byte ∷ rest) = fault_of byte >>= λ fault. Some (told.Refused fault, rest)
 
--- what an answer of a kind tells
-unfoldable pub telling_at : ℕ → Reader Told
-telling_at zero bytes = do
+unfoldable pub told_dot_at : Reader Told
+told_dot_at bytes = do
   dot ← dot_at bytes
   Some (told.Dot dot.0, dot.1)
-telling_at (suc zero) bytes = Some (told.Changed false, bytes)
-telling_at (suc (suc zero)) bytes = Some (told.Changed true, bytes)
-telling_at (suc (suc (suc zero))) bytes = do
-  whole ← whole_at bytes
-  Some (told.State whole.0.0.0 whole.0.0.1 whole.0.1, whole.1)
-telling_at (suc (suc (suc (suc zero)))) bytes = do
-  short ← short_at bytes
-  Some (told.Summary short.0.0.0 short.0.0.1 short.0.1, short.1)
-telling_at (suc (suc (suc (suc (suc zero))))) bytes = Some (told.Missing, bytes)
-telling_at (suc (suc (suc (suc (suc (suc zero)))))) bytes = do
-  fault ← fault_at bytes
-  Some (told.Refused fault.0, fault.1)
-telling_at (suc (suc (suc (suc (suc (suc (suc kind))))))) bytes = None
+
+unfoldable pub told_state_at : Reader Told
+told_state_at bytes = do
+  source ← source_at bytes
+  state ← state_at source.1
+  Some (told.State source.0.0 source.0.1 state.0, state.1)
+
+unfoldable pub told_summary_at : Reader Told
+told_summary_at bytes = do
+  source ← source_at bytes
+  summary ← summary_at source.1
+  Some (told.Summary source.0.0 source.0.1 summary.0, summary.1)
+
+-- an answer of a kind
+unfoldable pub telling_at : ℕ → Reader Told
+telling_at kind bytes =
+    if kind == 0 then told_dot_at bytes
+    else (if kind == 1 then Some (told.Changed false, bytes)
+    else (if kind == 2 then Some (told.Changed true, bytes)
+    else (if kind == 3 then told_state_at bytes
+    else (if kind == 4 then told_summary_at bytes
+    else (if kind == 5 then Some (told.Missing, bytes)
+    else (if kind == 6 then refused_at bytes else None))))))
 
 unfoldable pub told_at : Reader Told
 told_at [] = None

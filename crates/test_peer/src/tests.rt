@@ -2,5 +2,7 @@
 
 mod frames;
 mod members;
+mod messages;
 mod rings;
+mod rows;
 mod tags;
