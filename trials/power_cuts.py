@@ -8,8 +8,8 @@ of the others any. The store has to start from each of these, and has to show wh
 and what is superseded, as contexts say, and the hook's binding. Under `sync always` that is each write; under the others each that was
 acknowledged before a force of the log began that has ended, and under `sync everysec` nothing is left to force some seconds behind the
 last write. Most lives begin with what a cut left of the life before, and in some a call of the system fails. Some values are pieces of
-logs, whole records too. What the calls did in the model is compared with what stands in the folder at the end. A folder from which a
-start goes wrong is kept in `trials/out`.
+logs, whole records too. How many copies a key has stays in a folder. What the calls did in the model is compared with what stands in
+the folder at the end. A folder from which a start goes wrong is kept in `trials/out`.
 """
 from __future__ import annotations
 
@@ -130,9 +130,9 @@ class How:
         return ", ".join(word for word in (f"sync {self.sync.decode()}, copies {self.copies}", self.fault, self.delay) if word)
 
 
-def how_of(number: int, chance: random.Random) -> How:
-    """How a life goes, by its number."""
-    sync, copies = SYNCS[number % len(SYNCS)], chance.choice(COPIES)
+def how_of(number: int, copies: int, chance: random.Random) -> How:
+    """How a life goes, by its number, in a folder with so many copies of a key."""
+    sync = SYNCS[number % len(SYNCS)]
     if number % FAULTY_LIVES != FAULTY_LIVES - 1:
         return How(sync, copies, delay=f"fdatasync:delay_enter={chance.choice(DELAYS_US)}" if number % 2 else "")
     fault = chance.choice(sorted(FAULTS))
@@ -339,8 +339,9 @@ def run(program: Path, seed: int, size: Size) -> Result:
     life: Life | None = None
     with tempfile.TemporaryDirectory(dir=IN_MEMORY, prefix="trial-") as name:
         for number in range(size.lives):
-            folder, how = Path(name, f"life-{number}"), how_of(number, chance)
-            if life is None or number % LIVES_OF_A_FOLDER == 0:
+            folder, is_new = Path(name, f"life-{number}"), number % LIVES_OF_A_FOLDER == 0
+            how = how_of(number, chance.choice(COPIES) if life is None or is_new else life.how.copies, chance)
+            if life is None or is_new:
                 folder.mkdir()
                 life = Life(how, Trace(folder))
             else:

@@ -4,10 +4,12 @@ Each round some clients write keys, alone and together, others read all of them,
 acknowledged has to be there at the next start. Where the server has one worker everything that a reader was shown has to be there,
 too: a worker's answers wait together until the log has what it did. Where it has more, a read may have shown what another worker was
 just doing: of what was shown and isn't there it has to be so that nobody was told that it is written. So it is however the log is
-forced, as the rounds take in turn, since a process that is killed leaves what it has written.
+forced, as the rounds take in turn, since a process that is killed leaves what it has written. In half of the rounds strace has each
+write of the log come late, so that there is much to be shown that the log doesn't have.
 """
 from __future__ import annotations
 
+import os
 import random
 import threading
 import time
@@ -15,7 +17,8 @@ from dataclasses import dataclass, field
 from pathlib import Path
 
 import kept
-from server import Server
+from server import AT_A_PORT_OF_THE_SYSTEM, Server
+from traces import strace
 from trial import Findings, Result
 from writes import Known, Numbered, Shown, Writer, has, read_all, read_request, shown_in, wait_for
 
@@ -39,6 +42,7 @@ WRITERS, READERS = 3, 3
 OWN_KEYS, SHARED_KEYS = 2, ["shared-1", "shared-2"]
 WITHOUT_END = 10**9
 TOGETHER = 8
+LATE_US = 10_000
 MOST_WRITES_BEFORE = 60
 # In a folder of its own, so that a key's context stays short.
 KILLS_OF_A_FOLDER = 30
@@ -92,7 +96,7 @@ class Store:
     def round(self, sync: bytes, workers: int) -> list[str]:
         """One start and a kill, and what the next start shows. Gives what is wrong."""
         (self.folder / kept.SETTINGS).write_bytes(kept.NO_SNAPSHOTS_BY_ITSELF + b"sync %s\n" % sync)
-        with Server.keep(self.program, self.folder, workers) as server:
+        with self.start(workers) as server:
             writers, readers = self.begin(server)
             wait_for(writers, self.chance.randrange(MOST_WRITES_BEFORE))
             time.sleep(self.chance.uniform(0, 0.3))
@@ -106,16 +110,26 @@ class Store:
             server.kill()
         return faults + self.faults(now, [one for reader in readers for one in reader.shown], workers == 1)
 
+    def start(self, workers: int) -> Server:
+        """A server, in half of the starts one whose writes of its log are late."""
+        if self.chance.random() < 0.5:
+            return Server.keep(self.program, self.folder, workers)
+        logs = [int(path.name.partition("-")[2]) for path in self.folder.glob("log-*")]
+        log = self.folder / f"log-{max(logs, default=-1) + 1}"
+        late = ["-D", "-f", "-qq", "-o", os.devnull, "-P", str(log), "-e", "trace=write", "-e", f"inject=write:delay_enter={LATE_US}"]
+        words = [*late, str(self.program), "keep", str(self.folder), AT_A_PORT_OF_THE_SYSTEM, str(workers)]
+        return Server(Path(strace()), words)
+
     def begin(self, server: Server) -> tuple[list[Writer], list[Reader]]:
-        writers = []
+        writers, rewritten = [], set(SHARED_KEYS)
         for number in range(WRITERS):
             keys = [*(f"w{number}-{place}" for place in range(OWN_KEYS)), *SHARED_KEYS]
+            rewritten.update(keys)
             for key in keys:
                 self.known.setdefault(key, Known())
             chance = random.Random(self.chance.random())
             writers.append(Writer(server, f"w{number}-{self.chance.getrandbits(40)}", self.known, keys, WITHOUT_END, chance))
-        keys = sorted(self.known)
-        readers = [Reader(server, keys, random.Random(self.chance.random())) for _ in range(READERS)]
+        readers = [Reader(server, sorted(rewritten), random.Random(self.chance.random())) for _ in range(READERS)]
         for thread in [*writers, *readers]:
             thread.start()
         return writers, readers
@@ -148,6 +162,7 @@ class Store:
 
 
 def run(program: Path, seed: int, size: Size) -> Result:
+    strace()
     found, chance = Findings(), random.Random(seed)
     tally = Tally()
     for first in range(0, size.kills, KILLS_OF_A_FOLDER):
