@@ -28,7 +28,7 @@ QUICK = False
 
 @dataclass(frozen=True)
 class Size:
-    """Rounds, how long each of the three is asked, numbers of connections, and the most threads that ask and workers that answer."""
+    """Rounds, how long each store is asked, numbers of connections, and the most threads that ask and workers that answer."""
 
     rounds: int
     seconds: float

@@ -18,6 +18,7 @@ from dataclasses import dataclass, field
 from pathlib import Path
 
 import kept
+from beside import Size
 from load import Asker, etcd, redis
 from server import Server, stopped_in_order
 from trial import Findings, Result, tool
@@ -25,17 +26,6 @@ from trial import Findings, Result, tool
 NAME = "logs"
 PROMISES = "Requests a second with each way to force a log, measured beside redis and etcd."
 QUICK = False
-
-
-@dataclass(frozen=True)
-class Size:
-    """Rounds, how long each is asked, numbers of connections, and the most threads that ask and workers that answer."""
-
-    rounds: int
-    seconds: float
-    connections: tuple[int, ...]
-    threads: int
-    workers: int
 
 
 FULL = Size(rounds=3, seconds=1.0, connections=(1, 64, 1_000), threads=4, workers=4)
